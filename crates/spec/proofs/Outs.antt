@@ -12,9 +12,7 @@ use Rattle.raft_model.proofs.Cases.{bool_cases}
 use Rattle.group_model.specs.Brokers.{Mark, Free, Out, Acked, Task, task_id, task_of, same_token, marked_out, task_out, outstanding}
 use Rattle.group_model.specs.Desks.{Desk}
 use Rattle.group_model.specs.Servers.{Server}
-use Rattle.group_safety.specs.Desks.{IsOfTerm, TokensAre, DeskIs}
-use Rattle.group_safety.proofs.Tokens.{found_row}
-use Rattle.spec.specs.Refinement.{token_of_mark, token_of_task, token_at, token_in}
+use Rattle.group_safety.specs.Deliveries.{token_of_mark, token_of_task, token_at, token_in}
 
 same_serial : (a b : Token) → same_token a b ≡ true → a ≡ b
 same_serial a b h = let p = and_parts (nat_eq a.term b.term) (nat_eq a.serial b.serial) h in
@@ -50,30 +48,4 @@ leader_out (x ∷ servers) term eval zero s here leads its one =
 leader_out (x ∷ servers) term eval (suc i) s here leads its one = elim (bool_cases (is_leader x.raft.mode && (x.raft.term == term))) [
   | inl e ↦ let p = and_parts (is_leader x.raft.mode) (x.raft.term == term) e in absurd (let q = one zero x refl p.0 (eqb-true x.raft.term term p.1) in omega (arith, q))
   | inr e ↦ rw e (leader_out servers term eval i s here leads its (λ j y at l t. let q = one (suc j) y at l t in omega (arith, q)))
-]
-
--- ---- and is so under a token of the term
-
-mark_term : (term : ℕ) (token : Token) (mark : Mark) → IsOfTerm term mark → token_of_mark mark ≡ Some token → token.term ≡ term
-mark_term term token Free own e = absurd (cc)
-mark_term term token (Out other w) own e = ap (λ (t : Token). t.term) (sym (same_Some other token e)) ∙ own
-mark_term term token Acked own e = absurd (cc)
-
-task_term : (term : ℕ) (token : Token) (o : Option Task) → ((t : Task) → o ≡ Some t → IsOfTerm term t.mark) → token_of_task o ≡ Some token → token.term ≡ term
-task_term term token None own e = absurd (cc)
-task_term term token (Some t) own e = mark_term term token t.mark (own t refl) e
-
-desk_term : (s : Server) (eval : EvalId) (token : Token) (o : Option Desk) → s.desk ≡ o → DeskIs s → token_at eval o ≡ Some token → token.term ≡ s.raft.term
-desk_term s eval token None is ok e = absurd (cc)
-desk_term s eval token (Some d) is (inl h) e = absurd (let q = sym h.0 ∙ is in cc)
-desk_term s eval token (Some d) is (inr h) e =
-    let same : h.0 ≡ d = same_Some h.0 d (sym h.1 ∙ is) in
-    let tokens : TokensAre s.raft.term d.broker.tasks = subst (λ (x : Desk). TokensAre s.raft.term x.broker.tasks) same h.3.tokens in
-    task_term s.raft.term token (task_of eval d.broker.tasks) (λ t f. found_row eval_cmp task_id (λ (x : Task). IsOfTerm s.raft.term x.mark) eval d.broker.tasks t tokens f) e
-
-pub out_term : (servers : List Server) → ((i : ℕ) (s : Server) → slice_get servers i ≡ Some s → DeskIs s) → (term : ℕ) (eval : EvalId) (token : Token) → token_in servers term eval ≡ Some token → token.term ≡ term
-out_term [] ok term eval token e = absurd (cc)
-out_term (s ∷ servers) ok term eval token e = elim (bool_cases (is_leader s.raft.mode && (s.raft.term == term))) [
-  | inl b ↦ let q = rw b at e in desk_term s eval token s.desk refl (ok zero s refl) q ∙ eqb-true s.raft.term term (and_parts (is_leader s.raft.mode) (s.raft.term == term) b).1
-  | inr b ↦ let q = rw b at e in out_term servers (λ i x at. ok (suc i) x at) term eval token q
 ]

@@ -18,10 +18,12 @@ use Rattle.group_safety.proofs.GroupRuns.{run_front, run_step}
 use Rattle.group_safety.proofs.Lists.{get_map}
 use Rattle.group_safety.proofs.Moments.{of_moment}
 use Rattle.spec.specs.Spec.{SpecState, init, Actions}
-use Rattle.spec.specs.Refinement.{applied_by, started_by, token_in, Refines, begins, moves, Shows, RefinesSpec}
+use Rattle.group_safety.specs.Deliveries.{deliveries, token_in}
+use Rattle.spec.specs.Refinement.{applied_by, started_by, Refines, begins, moves, Shows, RefinesSpec}
 use Rattle.raft_safety.proofs.Reach.{far, far_bound, reach, reach_agree, then_bound, then_reached}
 use Rattle.raft_safety.proofs.Logs.{agree_none}
 use Rattle.spec.proofs.Born.{take_one}
+use Rattle.spec.proofs.Deliveries.{AreMade, event_made}
 use Rattle.spec.proofs.Steps.{state, stepped, shown, long, done, matched, counted, counted_less, counted_up}
 
 -- ---- the first world
@@ -94,6 +96,7 @@ module _ (n : ℕ) (nodes : List NodeSpec) (events : List Event) (past : List Wo
         applied = (ap (λ (v : World). map applied_by v.servers) same ∙ first_servers n) j;
         started = (ap (λ (v : World). map started_by v.clients) same ∙ first_clients 1 nodes) j;
         outstanding = λ term eval. (ap (λ (v : World). token_in v.servers term eval) same ∙ first_out n term eval) j;
+        delivered = ap (λ (v : World). deliveries v.sent) same j;
       })
 
   begin_shows : Shows (first n nodes) (init n (length nodes))
@@ -102,8 +105,17 @@ module _ (n : ℕ) (nodes : List NodeSpec) (events : List Event) (past : List Wo
     entries = λ i s here. let q = get_map raft_part (replicate n servers.newcomer) i s here in let e = first_raft n i s.raft q in
         subst (λ (r : Raft Command). Agree r.commit r.log []) e (agree_none [] []);
     clients = first_clients 1 nodes;
-    out = first_out n;
+    outstanding = first_out n;
+    delivered = refl;
   }
+
+  all_made : (k : ℕ) (x : World) → moment past w k ≡ Some x → AreMade n nodes events past w run L one k x
+  all_made zero x at = λ j pair there. absurd (let q = ap (λ (v : World). slice_get (deliveries v.sent) j) (sym (begin_is x at)) ∙ there in cc)
+  all_made (suc k) y next =
+      let within = get-within (past ++ w ∷ []) (suc k) y next in
+      let x = get-some (past ++ w ∷ []) k (omega (arith, within)) in
+      let h = run_step n nodes events past w run k x.0 y x.1 next in
+      event_made n nodes events past w run L one k x.0 y x.1 next h.event h.happens (all_made k x.0 x.1)
 
   comes : (k : ℕ) (x : World) → moment past w k ≡ Some x → Refines n nodes (take k past) x (St k x)
   unfolding St
@@ -117,9 +129,9 @@ module _ (n : ℕ) (nodes : List NodeSpec) (events : List Event) (past : List Wo
       ] in
       let h = run_step n nodes events past w run k x.0 y x.1 next in
       subst (λ ws. Refines n nodes ws y (St (suc k) y)) (sym (take_one k past x.0 here))
-      (moves y (St (suc k) y) (comes k x.0 x.1) (goes_on k x.0 y x.1 next h.event h.is h.happens) (shows_it (suc k) y next)) where
-        goes_on : (k : ℕ) (x y : World) → moment past w k ≡ Some x → moment past w (suc k) ≡ Some y → (e : Event) → IsEvent x e → happens x e ≡ Ok y → Actions (St k x) (St (suc k) y)
-        goes_on k x y at next e is h = stepped n nodes events past w run L one k x y at next e is h
+      (moves y (St (suc k) y) (comes k x.0 x.1) (goes_on k x.0 y x.1 next (all_made k x.0 x.1) h.event h.is h.happens) (shows_it (suc k) y next)) where
+        goes_on : (k : ℕ) (x y : World) → moment past w k ≡ Some x → moment past w (suc k) ≡ Some y → AreMade n nodes events past w run L one k x → (e : Event) → IsEvent x e → happens x e ≡ Ok y → Actions (St k x) (St (suc k) y)
+        goes_on k x y at next made e is h = stepped n nodes events past w run L one k x y at next made e is h
 
         shows_it : (k : ℕ) (x : World) → moment past w k ≡ Some x → Shows x (St k x)
         shows_it k x at = shown n nodes events past w run L one k x at

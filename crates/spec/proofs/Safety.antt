@@ -16,7 +16,7 @@ use Rattle.cluster_model.specs.Admission.{admission}
 use Rattle.cluster_model.specs.SafeFacts.{Safe}
 use Rattle.cluster_model.proofs.SafeLaws.{keeps_safe}
 use Rattle.cluster_model.proofs.ClusterMachine.{cluster_lawful}
-use Rattle.spec.specs.Spec.{SpecState, init, state_from, state_of, ServerStep, applies, crashes, restarts, IsPlaced, Action, appends, commits, at_server, starts, workers, Actions, none, more}
+use Rattle.spec.specs.Spec.{SpecState, init, state_from, state_of, ServerStep, applies, crashes, restarts, IsPlaced, Action, appends, commits, at_server, starts, delivers, ends, Actions, none, more}
 use Rattle.raft_model.specs.Logs.{term_at}
 use Rattle.group_safety.proofs.Fresh.{term_get}
 use Rattle.spec.specs.Safety.{WasOutstanding, IsAllocated}
@@ -51,10 +51,6 @@ none_at (suc n) a x (suc i) h = none_at n a x i h
 state_more : (s : State) (A : List (Entry Command)) (e : Entry Command) → state_from s (A ++ e ∷ []) ≡ applied (state_from s A) e.command
 state_more s [] e = refl
 state_more s (a ∷ A) e = state_more (applied s a.command) A e
-
--- tokens out are of their term
-Own : SpecState → Type 0
-Own g = (term : ℕ) (eval : EvalId) (token : Token) → g.outstanding term eval ≡ Some token → token.term ≡ term
 
 module _ (n c : ℕ) where
   begin : Holds n c (init n c)
@@ -91,90 +87,77 @@ module _ (n c : ℕ) where
         (subst (λ s. Safe s) (sym (state_more no_rows A e)) (keeps_safe (state_of A) e.command whole admitted))
   ]
 
-  act : (g h : SpecState) → Actions (init n c) g → Own g → Holds n c g → Action g h → Holds n c h × Own h
-  unfolding Own
-  act g h came own was (appends e f) = (
-    record {
-      within = omega (arith, was.within, push_length g.log e);
-      applied = was.applied;
-      terms = λ p d x at too. elim (get-where g.log (e ∷ []) (suc p) x too) [
-        | inl q ↦ elim (get-where g.log (e ∷ []) p d at) [ inl r ↦ was.terms p d x r.1 q.1 | inr r ↦ absurd (omega (arith, q.0, r.0)) ]
-        | inr q ↦
-            let inside = get-within (g.log ++ e ∷ []) (suc p) x too in
-            elim (get-where g.log (e ∷ []) p d at) [
-              | inl r ↦ omega (arith, f.term, ap (term_at g.log) (let z : length g.log ≡ suc p = omega (arith, q.0, inside, push_length g.log e) in z), term_get g.log p d r.1, ap (λ (v : Entry Command). v.term) (get-one e q.1.0 x q.1.1))
-              | inr r ↦ absurd (omega (arith, r.0, inside, push_length g.log e))
-            ]
-      ];
-      safe = safe_more g.log e was.safe f.admitted;
-      backed = λ p d plan at is. elim (get-where g.log (e ∷ []) p d at) [
-        | inl q ↦ let b = was.backed p d plan q.1 is in record { then = b.then; before = b.before; had = b.had ∙ take_append p g.log (e ∷ []) (omega (arith, q.0)); out = b.out; own = b.own }
-        | inr q ↦
-            let inside = get-within (g.log ++ e ∷ []) p d at in
-            let now : p ≡ length g.log = omega (arith, q.0, inside, push_length g.log e) in
-            let same : e ≡ d = get-one e q.1.0 d q.1.1 in
-            let out : g.outstanding d.term plan.eval ≡ Some plan.token = subst (λ (v : Entry Command). g.outstanding v.term plan.eval ≡ Some plan.token) same (f.token plan (ap (λ (v : Entry Command). v.command) same ∙ is)) in
-            record { then = g; before = came; had = sym (take_all p g.log (omega (arith, now))) ∙ take_append p g.log (e ∷ []) (omega (arith, now)); out = out; own = own d.term plan.eval plan.token out }
-      ];
-      placed = λ k ids j id at there. stays g h (suc k) id (omega arith) (λ i d w. get-more g.log (e ∷ []) i d w) (was.placed k ids j id at there);
-      once = was.once;
-    },
-    own,
-  )
-  act g h came own was (commits k rise fits) = (
-    record {
-      within = fits;
-      applied = λ i j at. omega (arith, rise, was.applied i j at);
-      terms = was.terms;
-      safe = was.safe;
-      backed = was.backed;
-      placed = λ c ids j id at there. stays g h (suc c) id rise (λ i d w. w) (was.placed c ids j id at there);
-      once = was.once;
-    },
-    own,
-  )
-  act g h came own was (at_server i old new here m) = (
-    record {
-      within = was.within;
-      applied = λ j k at. elim (get_set-cases g.applied i new j (Some k) at) [
-        | inl q ↦ moved old new m k q.1
-        | inr q ↦ was.applied j k q.1
-      ];
-      terms = was.terms;
-      safe = was.safe;
-      backed = was.backed;
-      placed = λ c ids j id at there. stays g h (suc c) id (omega arith) (λ i d w. w) (was.placed c ids j id at there);
-      once = was.once;
-    },
-    own,
-  ) where
+  act : (g h : SpecState) → Actions (init n c) g → Holds n c g → Action g h → Holds n c h
+  act g h came was (appends e f) = record {
+    within = omega (arith, was.within, push_length g.log e);
+    applied = was.applied;
+    terms = λ p d x at too. elim (get-where g.log (e ∷ []) (suc p) x too) [
+      | inl q ↦ elim (get-where g.log (e ∷ []) p d at) [ inl r ↦ was.terms p d x r.1 q.1 | inr r ↦ absurd (omega (arith, q.0, r.0)) ]
+      | inr q ↦
+          let inside = get-within (g.log ++ e ∷ []) (suc p) x too in
+          elim (get-where g.log (e ∷ []) p d at) [
+            | inl r ↦ omega (arith, f.term, ap (term_at g.log) (let z : length g.log ≡ suc p = omega (arith, q.0, inside, push_length g.log e) in z), term_get g.log p d r.1, ap (λ (v : Entry Command). v.term) (get-one e q.1.0 x q.1.1))
+            | inr r ↦ absurd (omega (arith, r.0, inside, push_length g.log e))
+          ]
+    ];
+    safe = safe_more g.log e was.safe f.admitted;
+    backed = λ p d plan at is. elim (get-where g.log (e ∷ []) p d at) [
+      | inl q ↦ let b = was.backed p d plan q.1 is in record { then = b.then; before = b.before; had = b.had ∙ take_append p g.log (e ∷ []) (omega (arith, q.0)); out = b.out }
+      | inr q ↦
+          let inside = get-within (g.log ++ e ∷ []) p d at in
+          let now : p ≡ length g.log = omega (arith, q.0, inside, push_length g.log e) in
+          let same : e ≡ d = get-one e q.1.0 d q.1.1 in
+          let out : g.outstanding d.term plan.eval ≡ Some plan.token = subst (λ (v : Entry Command). g.outstanding v.term plan.eval ≡ Some plan.token) same (f.token plan (ap (λ (v : Entry Command). v.command) same ∙ is)) in
+          record { then = g; before = came; had = sym (take_all p g.log (omega (arith, now))) ∙ take_append p g.log (e ∷ []) (omega (arith, now)); out = out }
+    ];
+    placed = λ k ids j id at there. stays g h (suc k) id (omega arith) (λ i d w. get-more g.log (e ∷ []) i d w) (was.placed k ids j id at there);
+    once = was.once;
+  }
+  act g h came was (commits k rise fits) = record {
+    within = fits;
+    applied = λ i j at. omega (arith, rise, was.applied i j at);
+    terms = was.terms;
+    safe = was.safe;
+    backed = was.backed;
+    placed = λ c ids j id at there. stays g h (suc c) id rise (λ i d w. w) (was.placed c ids j id at there);
+    once = was.once;
+  }
+  act g h came was (at_server i old new here m) = record {
+    within = was.within;
+    applied = λ j k at. elim (get_set-cases g.applied i new j (Some k) at) [
+      | inl q ↦ moved old new m k q.1
+      | inr q ↦ was.applied j k q.1
+    ];
+    terms = was.terms;
+    safe = was.safe;
+    backed = was.backed;
+    placed = λ c ids j id at there. stays g h (suc c) id (omega arith) (λ i d w. w) (was.placed c ids j id at there);
+    once = was.once;
+  } where
     moved : (old new : Option ℕ) → ServerStep g.committed old new → (k : ℕ) → new ≡ Some k → k ≤ g.committed
     moved old new (applies a b rise fits) k e = omega (arith, fits, same_Some b k e)
     moved old new (crashes a) k e = absurd (cc)
     moved old new (restarts b fits) k e = omega (arith, fits, same_Some b k e)
-  act g h came own was (starts d ids id here new p) = (
-    record {
-      within = was.within;
-      applied = was.applied;
-      terms = was.terms;
-      safe = was.safe;
-      backed = was.backed;
-      placed = λ k all j x at there. elim (get_set-cases g.started d (ids ++ id ∷ []) k all at) [
-        | inl q ↦
-            let there_too : slice_get (ids ++ id ∷ []) j ≡ Some x = ap (λ l. slice_get l j) q.1 ∙ there in
-            subst (λ v. IsPlaced h (suc v) x) (sym q.0) (elim (get-where ids (id ∷ []) j x there_too) [
-              | inl r ↦ stays g h (suc d) x (omega arith) (λ i e w. w) (was.placed d ids j x here r.1)
-              | inr r ↦ subst (λ v. IsPlaced h (suc d) v) (get-one id r.1.0 x r.1.1) (stays g h (suc d) id (omega arith) (λ i e w. w) p)
-            ])
-        | inr q ↦ stays g h (suc k) x (omega arith) (λ i e w. w) (was.placed k all j x q.1 there)
-      ];
-      once = λ k all i j x at one two. elim (get_set-cases g.started d (ids ++ id ∷ []) k all at) [
-        | inl q ↦ same_place i j x (ap (λ l. slice_get l i) q.1 ∙ one) (ap (λ l. slice_get l j) q.1 ∙ two)
-        | inr q ↦ was.once k all i j x q.1 one two
-      ];
-    },
-    own,
-  ) where
+  act g h came was (starts d ids id here new p) = record {
+    within = was.within;
+    applied = was.applied;
+    terms = was.terms;
+    safe = was.safe;
+    backed = was.backed;
+    placed = λ k all j x at there. elim (get_set-cases g.started d (ids ++ id ∷ []) k all at) [
+      | inl q ↦
+          let there_too : slice_get (ids ++ id ∷ []) j ≡ Some x = ap (λ l. slice_get l j) q.1 ∙ there in
+          subst (λ v. IsPlaced h (suc v) x) (sym q.0) (elim (get-where ids (id ∷ []) j x there_too) [
+            | inl r ↦ stays g h (suc d) x (omega arith) (λ i e w. w) (was.placed d ids j x here r.1)
+            | inr r ↦ subst (λ v. IsPlaced h (suc d) v) (get-one id r.1.0 x r.1.1) (stays g h (suc d) id (omega arith) (λ i e w. w) p)
+          ])
+      | inr q ↦ stays g h (suc k) x (omega arith) (λ i e w. w) (was.placed k all j x q.1 there)
+    ];
+    once = λ k all i j x at one two. elim (get_set-cases g.started d (ids ++ id ∷ []) k all at) [
+      | inl q ↦ same_place i j x (ap (λ l. slice_get l i) q.1 ∙ one) (ap (λ l. slice_get l j) q.1 ∙ two)
+      | inr q ↦ was.once k all i j x q.1 one two
+    ];
+  } where
     same_place : (i j : ℕ) (x : AllocId) → slice_get (ids ++ id ∷ []) i ≡ Some x → slice_get (ids ++ id ∷ []) j ≡ Some x → i ≡ j
     same_place i j x one two =
         let wi = get-within (ids ++ id ∷ []) i x one in
@@ -190,26 +173,31 @@ module _ (n c : ℕ) where
             | inr b ↦ omega (arith, a.0, b.0, wi, wj, size)
           ]
         ]
-  act g h came own was (workers out fits) = (
-    record {
-      within = was.within;
-      applied = was.applied;
-      terms = was.terms;
-      safe = was.safe;
-      backed = was.backed;
-      placed = λ c ids j id at there. stays g h (suc c) id (omega arith) (λ i d w. w) (was.placed c ids j id at there);
-      once = was.once;
-    },
-    fits,
-  )
+  act g h came was (delivers eval token k le pending free newest) = record {
+    within = was.within;
+    applied = was.applied;
+    terms = was.terms;
+    safe = was.safe;
+    backed = was.backed;
+    placed = λ c ids j id at there. stays g h (suc c) id (omega arith) (λ i d w. w) (was.placed c ids j id at there);
+    once = was.once;
+  }
+  act g h came was (ends outstanding stays_so) = record {
+    within = was.within;
+    applied = was.applied;
+    terms = was.terms;
+    safe = was.safe;
+    backed = was.backed;
+    placed = λ c ids j id at there. stays g h (suc c) id (omega arith) (λ i d w. w) (was.placed c ids j id at there);
+    once = was.once;
+  }
 
-  both : (g : SpecState) → Actions (init n c) g → Holds n c g × Own g
-  unfolding Own
-  both g none = (begin, λ term eval token e. absurd (cc))
-  both g (more {h = h} a b) = let w = both h a in act h g a w.1 w.0 b
+  holds : (g : SpecState) → Actions (init n c) g → Holds n c g
+  holds g none = begin
+  holds g (more {h = h} a b) = act h g a (holds h a) b
 
   pub safe : (g : SpecState) → Actions (init n c) g → safety.IsSafe n c g
-  safe g a = let w = both g a in let p = w.0 in record {
+  safe g a = let p = holds g a in record {
     within = p.within;
     applied = p.applied;
     terms = p.terms;
@@ -219,7 +207,7 @@ module _ (n c : ℕ) where
     once = p.once;
   }
 
--- while a server is up it never more back
+-- while a server is up it never goes back
 moved_up : (committed : ℕ) (old new : Option ℕ) → ServerStep committed old new → (j k : ℕ) → old ≡ Some j → new ≡ Some k → j ≤ k
 moved_up committed old new (applies a b rise fits) j k e f = omega (arith, rise, same_Some a j e, same_Some b k f)
 moved_up committed old new (crashes a) j k e f = absurd (cc)
@@ -236,4 +224,5 @@ stays_up g h (at_server d old new here m) i j k a b = elim (get_set-cases g.appl
   | inr q ↦ same_up g.applied i j k a q.1
 ]
 stays_up g h (starts c ids id here new p) i j k a b = same_up g.applied i j k a b
-stays_up g h (workers out fits) i j k a b = same_up g.applied i j k a b
+stays_up g h (delivers eval token m le pending free newest) i j k a b = same_up g.applied i j k a b
+stays_up g h (ends outstanding stays_so) i j k a b = same_up g.applied i j k a b

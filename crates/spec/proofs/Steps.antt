@@ -1,14 +1,23 @@
--- One event of the group is some actions of the one machine.
-use Rattle.std.proofs.Common.{◌≡◌, ℕ, zero, suc, ◌-◌, ◌≤◌, ◌<◌, ◌⊎◌, inl, inr, true, Option, Some, None, Ok, List, [], ◌∷◌, ◌++◌, length, map, take, drop, refl, sym, ap, ◌∙◌, subst, arith, slice_get, slice_set, length-take-le, take-take, if◌then◌else◌}
+-- One event of the group is some actions of the specification.
+use Rattle.std.proofs.Common.{◌≡◌, ℕ, zero, suc, ◌-◌, ◌≤◌, ◌<◌, ◌⊎◌, inl, inr, true, Option, Some, None, Ok, List, [], ◌∷◌, ◌++◌, length, map, take, drop, refl, sym, ap, ◌∙◌, subst, arith, slice_get, slice_set, length-take-le, take-take, if◌then◌else◌, filter, T, ◌&&◌, nat_eq}
+use Rattle.std.proofs.lemmas.Bool.{and_parts, and_from, eqb-true, eq-eqb}
 use Rattle.std.proofs.lemmas.Option.{same_Some}
 use Rattle.rows.specs.declared.node.NodeSpec.{NodeSpec}
 use Rattle.rows.specs.declared.evaluation.EvalId.{EvalId}
+use Rattle.rows.specs.declared.evaluation.Evaluation.{Evaluation}
+use Rattle.rows.specs.Versions.{newest}
+use Rattle.rows.specs.States.{IsState}
+use Rattle.rows.specs.Rising.{is_rising}
+use Rattle.rows.specs.Keys.{eval_cmp, eval_id}
+use Rattle.rows.proofs.KeyLaws.{eval_cmp_total}
+use Rattle.fields_model.proofs.RangeLaws.{state_fits}
 use Rattle.rows.specs.declared.allocation.AllocId.{AllocId}
 use Rattle.rows.specs.declared.token.Token.{Token}
 use Rattle.rows.specs.declared.command.AcceptedPlan.{AcceptedPlan}
 use Rattle.rows.specs.declared.command.Command.{Command}
 use Rattle.machine_model.specs.declared.entry.Entry.{Entry}
 use Rattle.machine_model.specs.After.{after_from}
+use Rattle.machine_model.proofs.Afters.{after_good}
 use Rattle.raft_model.specs.Logs as logs_model
 use Rattle.raft_model.specs.Logs.{term_at, last_term, state_after}
 use Rattle.raft_model.specs.Messages.{Message}
@@ -22,26 +31,35 @@ use Rattle.raft_safety.specs.Inner.SmallSteps.{Turns}
 use Rattle.raft_safety.proofs.Places.{get-within, get-last, get-more, get-some, get_set-same, take_get}
 use Rattle.raft_safety.proofs.Commits.{turn_commit}
 use Rattle.raft_safety.proofs.Election as election
-use Rattle.raft_safety.proofs.Sound.{Sound}
-use Rattle.cluster_model.specs.Words.{State, no_rows}
+use Rattle.raft_safety.proofs.Sound.{Sound, first_sound, sound_admitted}
+use Rattle.cluster_model.specs.Words.{State, no_rows, same_eval, is_pending}
 use Rattle.cluster_model.specs.Effect.{applied}
 use Rattle.cluster_model.specs.Admission.{admission}
 use Rattle.cluster_model.specs.ClusterMachine.{cluster_meaning}
+use Rattle.cluster_model.proofs.ClusterMachine.{cluster_lawful}
+use Rattle.group_model.specs.Brokers.{Free, Task, Key, task_id, task_of, task_key, eval_key, next_token}
+use Rattle.group_model.specs.Desks.{Desk, applied_state}
+use Rattle.group_model.proofs.KeptRows.{rising_kept, rising_back, all_found}
 use Rattle.group_model.specs.Servers.{Server}
 use Rattle.group_model.specs.Agents.{Agent}
 use Rattle.group_model.specs.Worlds.{World, Event, Run, IsEvent, LogEventFits, happens, moment, raft_of, raft_part, raft_event}
 use Rattle.group_safety.specs.Claims.{OneList, LogAt, logs}
 use Rattle.group_safety.proofs.Chained as chained
+use Rattle.group_safety.specs.Desks.{Mirrors, DeskIs}
 use Rattle.group_safety.proofs.DeskRuns.{desks}
-use Rattle.group_safety.proofs.Lists.{get_map, map_set}
+use Rattle.group_safety.proofs.Honesty.{all_get}
+use Rattle.group_safety.proofs.TaskTokens.{passes_in}
+use Rattle.group_safety.proofs.Lists.{get_map, map_get, map_set}
 use Rattle.group_safety.proofs.Moments.{log_moment}
 use Rattle.group_safety.proofs.Placings.{placed}
 use Rattle.group_safety.proofs.WorldSteps as world_steps
-use Rattle.spec.specs.Spec.{SpecState, state_from, state_of, MayFollow, ServerStep, applies, crashes, restarts, IsPlaced, Action, appends, commits, at_server, starts, workers, Actions, none, more}
-use Rattle.spec.specs.Refinement.{applied_by, started_by, token_at, token_in, Shows}
+use Rattle.spec.specs.Spec.{SpecState, state_from, state_of, MayFollow, ServerStep, applies, crashes, restarts, IsPlaced, Action, appends, commits, at_server, starts, IsPending, IsNewest, with_token, delivers, ends, Actions, none, more}
+use Rattle.group_safety.specs.Deliveries.{deliveries, token_of_mark, token_of_task, token_at, token_in}
+use Rattle.spec.specs.Refinement.{applied_by, started_by, Shows}
 use Rattle.spec.proofs.Logs.{Rising, may_follow}
 use Rattle.raft_safety.proofs.Reach.{far, far_bound, far_within, Newest, grew, just_now, had_all, reach_agree, by_then, then_bound, then_reached, then_rises}
-use Rattle.spec.proofs.Outs.{desk_out, leader_out, out_term}
+use Rattle.spec.proofs.Outs.{desk_out, leader_out}
+use Rattle.spec.proofs.Deliveries.{one_leads, AreMade, Delivers, nothing as no_delivery, delivery, event_delivers, at_leader}
 use Rattle.spec.proofs.Starts.{Added, nothing, another, ClientsGo, event_clients}
 use Rattle.spec.proofs.Born.{take_one, split_at, the_list_sound, the_list_rises, Born, born, PlanBorn, plan_born}
 
@@ -54,7 +72,7 @@ then_on f g h a (more b c) = more (then_on f g _ a b) c
 pub acts_one : (g h : SpecState) → Action g h → Actions g h
 acts_one g h a = more none a
 
--- the page's states are the machine's
+-- the specification's states are the machine's
 pub state_same : (s : State) (L : List (Entry Command)) → state_from s L ≡ after_from cluster_meaning s (logs_model.commands L)
 unfolding logs_model.commands
 state_same s [] = refl
@@ -175,13 +193,25 @@ module _ (x y : World) (g : SpecState) (is : g.started ≡ map started_by x.clie
 
 -- ---- one event
 
-leader_parts : {C : Type 0} (s : Raft C) → is_leader s.mode ≡ true → (next : List ℕ) × (match : List ℕ) × (s.mode ≡ Leader next match)
-leader_parts s h = by s.mode refl h where
-  by : (mode : Mode) → s.mode ≡ mode → is_leader mode ≡ true → (next : List ℕ) × (match : List ℕ) × (s.mode ≡ Leader next match)
-  by Down e h = absurd (cc)
-  by Follower e h = absurd (cc)
-  by (Candidate votes) e h = absurd (cc)
-  by (Leader next match) e h = (next, match, e)
+abbrev key_id : Key → EvalId
+key_id key = key.id
+
+same_itself : (id : EvalId) → same_eval id id ≡ true
+same_itself id = and_from (nat_eq id.index id.index) (nat_eq id.slot id.slot) (eq-eqb id.index id.index refl) (eq-eqb id.slot id.slot refl)
+
+pub same_ids : (a b : EvalId) → same_eval a b ≡ true → a ≡ b
+same_ids a b h = let p = and_parts (nat_eq a.index b.index) (nat_eq a.slot b.slot) h in
+    (λ j. record { index = eqb-true a.index b.index p.0 j; slot = eqb-true a.slot b.slot p.1 j })
+
+none_some : {token : Token} → let none : Option Token = None in none ≡ Some token → ⊥
+none_some h = cc
+
+leader_up : (mode : Mode) → is_leader mode ≡ true → is_up mode ≡ true
+leader_up Down h = absurd (cc)
+leader_up Follower h = refl
+leader_up (Candidate votes) h = refl
+leader_up (Leader next match) h = refl
+
 
 module _ (n : ℕ) (nodes : List NodeSpec) (events : List Event) (past : List World) (w : World) (run : Run n nodes events past w) (L : List (Entry Command)) (one : OneList past w L) where
   pub matched : LogMatching (logs past) (raft_of w)
@@ -201,6 +231,7 @@ module _ (n : ℕ) (nodes : List NodeSpec) (events : List Event) (past : List Wo
     applied = map applied_by x.servers;
     started = map started_by x.clients;
     outstanding = token_in x.servers;
+    delivered = deliveries x.sent;
   }
 
   at_log : (k : ℕ) (x : World) → moment past w k ≡ Some x → (i : ℕ) (s : Raft Command) → slice_get (raft_of x).servers i ≡ Some s → LogAt past w k i s
@@ -221,18 +252,12 @@ module _ (n : ℕ) (nodes : List NodeSpec) (events : List Event) (past : List Wo
 
   -- at a moment
   module _ (k : ℕ) (x : World) (at : moment past w k ≡ Some x) where
-    done_bound : (i : ℕ) (s : Raft Command) → slice_get (raft_of x).servers i ≡ Some s → is_up s.mode ≡ true → s.commit ≤ done k
+    done_by : (l : ℕ) → k ≤ l → (i : ℕ) (s : Raft Command) → slice_get (raft_of x).servers i ≡ Some s → is_up s.mode ≡ true → s.commit ≤ done l
     unfolding done
-    done_bound i s here up = omega (arith, counted_up s up, then_bound (logs past) (raft_of w) counted k k i s (at_log k x at i s here) (omega arith))
+    done_by l le i s here up = omega (arith, counted_up s up, then_bound (logs past) (raft_of w) counted k l i s (at_log k x at i s here) le)
 
-    -- whoever leads a term is its one leader
-    one_leads : (i : ℕ) (s : Server) → slice_get x.servers i ≡ Some s → is_leader s.raft.mode ≡ true → (j : ℕ) (t : Server) → slice_get x.servers j ≡ Some t → is_leader t.raft.mode ≡ true → t.raft.term ≡ s.raft.term → i ≡ j
-    one_leads i s here leads j t there its same =
-        let a = leader_parts s.raft leads in
-        let b = leader_parts t.raft its in
-        one.one_leader k k (raft_of x) (raft_of x) i j s.raft.term (log_moment past w k x at) (log_moment past w k x at)
-        (record { server = s.raft; next = a.0; match = a.1; here = get_map raft_part x.servers i s here; mode = a.2; term = refl })
-        (record { server = t.raft; next = b.0; match = b.1; here = get_map raft_part x.servers j t there; mode = b.2; term = same })
+    done_bound : (i : ℕ) (s : Raft Command) → slice_get (raft_of x).servers i ≡ Some s → is_up s.mode ≡ true → s.commit ≤ done k
+    done_bound i s here up = done_by k (omega arith) i s here up
 
     pub shown : Shows x (state k x)
     unfolding state long
@@ -245,11 +270,9 @@ module _ (n : ℕ) (nodes : List NodeSpec) (events : List Event) (past : List Wo
           let le = far_bound (logs past) (raft_of w) L matched one k k i s.raft.commit s.raft a (omega arith) g in
           record { left = g.left; right = omega (arith, le, size); same = g.same ∙ sym (take-take s.raft.commit (long k) L le) };
       clients = refl;
-      out = λ term eval. refl;
+      outstanding = λ term eval. refl;
+      delivered = refl;
     }
-
-    terms : (term : ℕ) (eval : EvalId) (token : Token) → token_in x.servers term eval ≡ Some token → token.term ≡ term
-    terms = out_term x.servers (λ i s here. desks n nodes events past w run k i s (record { world = x; world_is = at; here = here }))
 
   -- between two
   module _ (k : ℕ) (x y : World) (at : moment past w k ≡ Some x) (next : moment past w (suc k) ≡ Some y) where
@@ -261,7 +284,7 @@ module _ (n : ℕ) (nodes : List NodeSpec) (events : List Event) (past : List Wo
         let world : b.before_at.world ≡ x = same_Some b.before_at.world x (sym b.before_at.world_is ∙ (ap (moment past w) now ∙ at)) in
         let here : slice_get x.servers b.who ≡ Some b.before = subst (λ (v : World). slice_get v.servers b.who ≡ Some b.before) world b.before_at.here in
         leader_out x.servers e.term plan.eval b.who b.before here b.leads b.term
-        (λ j t there its same. one_leads k x at b.who b.before here b.leads j t there its (same ∙ sym b.term))
+        (λ j t there its same. one_leads n nodes events past w run L one k k b.who j b.before t (record { world = x; world_is = at; here = here }) (record { world = x; world_is = at; here = there }) b.leads its (same ∙ sym b.term))
         ∙ (ap (token_at plan.eval) b.is_open ∙ desk_out plan.eval plan.token b.wait b.desk b.is_out)
 
     -- the list grows
@@ -293,7 +316,7 @@ module _ (n : ℕ) (nodes : List NodeSpec) (events : List Event) (past : List Wo
           subst (λ l. Actions (state k x) (record (state k x) { log = l })) grown (acts_one _ _ (appends e.0 follows))
 
     -- what clients have started is placed
-    all_placed : (c : ℕ) (a : Agent) (j : ℕ) (id : AllocId) → slice_get y.clients c ≡ Some a → slice_get a.started j ≡ Some id → IsPlaced (record { log = take (long (suc k)) L; committed = done (suc k); applied = map applied_by y.servers; started = map started_by x.clients; outstanding = token_in x.servers }) (suc c) id
+    all_placed : (c : ℕ) (a : Agent) (j : ℕ) (id : AllocId) → slice_get y.clients c ≡ Some a → slice_get a.started j ≡ Some id → IsPlaced (record { log = take (long (suc k)) L; committed = done (suc k); applied = map applied_by y.servers; started = map started_by x.clients; outstanding = token_in x.servers; delivered = deliveries x.sent }) (suc c) id
     unfolding done
     all_placed c a j id here there =
         let p = placed n nodes events past w run L one (suc k) (suc c) a j id (record { world = y; world_is = next; here = here }) there in
@@ -311,10 +334,98 @@ module _ (n : ℕ) (nodes : List NodeSpec) (events : List Event) (past : List Wo
           on = p.on;
         }
 
+    -- what is delivered, and what is outstanding no more
+    module _ (made : AreMade n nodes events past w run L one k x) (g : SpecState) (log : g.log ≡ take (long (suc k)) L) (committed : g.committed ≡ done (suc k))
+        (outstanding : g.outstanding ≡ token_in x.servers) (delivered : g.delivered ≡ deliveries x.sent) where
+      abbrev After : Type 0
+      After = Actions g (record g { outstanding = token_in y.servers; delivered = deliveries y.sent })
+
+      module _ (i : ℕ) (s : Server) (d : Desk) (here : slice_get x.servers i ≡ Some s) (leads : is_leader s.raft.mode ≡ true) (is_open : s.desk ≡ Some d) where
+        abbrev token : Token
+        token = next_token s.raft.term d.broker
+
+        applied_at : take s.raft.commit (take (long (suc k)) L) ≡ take s.raft.commit s.raft.log
+        unfolding long
+        applied_at =
+            let a = at_log k x at i s.raft (get_map raft_part x.servers i s here) in
+            let agree = one.agrees k i s.raft a in
+            take-take s.raft.commit (long (suc k)) L (far_bound (logs past) (raft_of w) L matched one k (suc k) i s.raft.commit s.raft a (omega arith) agree) ∙ sym agree.same
+
+        is_state : IsState (applied_state s.raft)
+        is_state =
+            let a = at_log k x at i s.raft (get_map raft_part x.servers i s here) in
+            let agree = one.agrees k i s.raft a in
+            let sound : Sound cluster_meaning (take s.raft.commit s.raft.log) = subst (Sound cluster_meaning) (sym agree.same) (first_sound cluster_meaning s.raft.commit L (the_list_sound n nodes events past w run L one)) in
+            let good = after_good cluster_meaning cluster_lawful (logs_model.commands (take s.raft.commit s.raft.log)) (sound_admitted cluster_meaning (take s.raft.commit s.raft.log) sound) in
+            state_fits newest (applied_state s.raft) good.state
+
+        mirrors : Mirrors s.raft.term (applied_state s.raft) d
+        mirrors = by (desks n nodes events past w run k i s (record { world = x; world_is = at; here = here })) where
+          by : DeskIs s → Mirrors s.raft.term (applied_state s.raft) d
+          by (inl h) = absurd (let q = sym h.0 ∙ is_open in cc)
+          by (inr h) = subst (Mirrors s.raft.term (applied_state s.raft)) (same_Some h.0 d (sym h.1 ∙ is_open)) h.3
+
+        -- what is at the desk is pending, and is found under its id
+        pending_at : (j : ℕ) (t : Task) → slice_get d.broker.tasks j ≡ Some t → IsPending (state_of (take s.raft.commit g.log)) t.id
+        pending_at j t there =
+            let evals = (applied_state s.raft).evals in
+            let held : slice_get (map eval_key (filter (λ (e : Evaluation). is_pending e.status) evals)) j ≡ Some (task_key t) = ap (λ l. slice_get l j) (sym mirrors.tasks) ∙ get_map task_key d.broker.tasks j t there in
+            let v = map_get eval_key (filter (λ (e : Evaluation). is_pending e.status) evals) j (task_key t) held in
+            let p = passes_in (λ (e : Evaluation). is_pending e.status) evals j v.0 v.1 in
+            let whole : applied_state s.raft ≡ state_of (take s.raft.commit g.log) = sym (state_same no_rows (take s.raft.commit s.raft.log)) ∙ ap state_of (sym (ap (take s.raft.commit) log ∙ applied_at)) in
+            record { place = p.0; row = v.0; here = ap (λ (z : State). slice_get z.evals p.0) (sym whole) ∙ p.1; same = ap (λ (key : Key). key.id) v.2; pending = p.2 }
+
+        found : (j : ℕ) (t : Task) → slice_get d.broker.tasks j ≡ Some t → task_of t.id d.broker.tasks ≡ Some t
+        found j t there =
+            let tables = is_state.tables in
+            let rising : T (is_rising eval_cmp key_id (map eval_key (filter (λ (e : Evaluation). is_pending e.status) (applied_state s.raft).evals))) = rising_kept eval_cmp eval_id key_id eval_key (λ e. refl) (λ (e : Evaluation). is_pending e.status) (applied_state s.raft).evals tables.evals.rising in
+            all_get (λ (z : Task). task_of z.id d.broker.tasks ≡ Some z) d.broker.tasks
+            (all_found eval_cmp task_id eval_cmp_total d.broker.tasks (rising_back eval_cmp task_id key_id task_key (λ z. refl) d.broker.tasks (subst (λ l. T (is_rising eval_cmp key_id l)) (sym mirrors.tasks) rising))) j t there
+
+        module _ (j : ℕ) (t : Task) (there : slice_get d.broker.tasks j ≡ Some t) (free : t.mark ≡ Free) where
+          nobody : token_in x.servers s.raft.term t.id ≡ None
+          nobody = at_leader n nodes events past w run L one k x y at next s.raft.term t.id i s here leads refl
+              ∙ (ap (token_at t.id) is_open ∙ (ap token_of_task (found j t there) ∙ ap token_of_mark free))
+
+          -- what is outstanding now is so after the delivery
+          still : (term : ℕ) (eval : EvalId) (other : Token) → ((term ≡ s.raft.term) × (eval ≡ t.id) × (other ≡ token)) ⊎ (token_in x.servers term eval ≡ Some other) → with_token t.id token (token_in x.servers) term eval ≡ Some other
+          still term eval other (inl q) =
+              rw (and_from (nat_eq term token.term) (same_eval eval t.id) (eq-eqb term token.term q.0) (ap (λ (z : EvalId). same_eval eval z) (sym q.1) ∙ same_itself eval)) (ap Some (sym q.2))
+          still term eval other (inr q) = elim (bool_cases (nat_eq term token.term && same_eval eval t.id)) [
+            | inl b ↦
+                let p = and_parts (nat_eq term token.term) (same_eval eval t.id) b in
+                absurd (none_some (sym nobody ∙ ((λ i. token_in x.servers (sym (eqb-true term token.term p.0) i) (sym (same_ids eval t.id p.1) i)) ∙ q)))
+            | inr b ↦ rw b q
+          ]
+
+          newest_token : IsNewest g token
+          newest_token m old at_m of_term =
+              let made_by = made m old (ap (λ l. slice_get l m) (sym delivered) ∙ at_m) in
+              let u = made_by.used i s here leads (sym of_term) in
+              omega (arith, u.2, ap (λ (z : Desk). z.broker.serial) (same_Some u.0 d (sym u.1 ∙ is_open)))
+
+          one_more : deliveries y.sent ≡ deliveries x.sent ++ (t.id, token) ∷ [] →
+              ((term : ℕ) (eval : EvalId) (other : Token) → token_in y.servers term eval ≡ Some other → ((term ≡ s.raft.term) × (eval ≡ t.id) × (other ≡ token)) ⊎ (token_in x.servers term eval ≡ Some other)) → After
+          one_more sent outs =
+              let up : is_up s.raft.mode ≡ true = leader_up s.raft.mode leads in
+              let low : s.raft.commit ≤ g.committed = omega (arith, committed, done_by k x at (suc k) (omega arith) i s.raft (get_map raft_part x.servers i s here) up) in
+              let nobody_has : g.outstanding token.term t.id ≡ None = ap (λ (f : ℕ → EvalId → Option Token). f token.term t.id) outstanding ∙ nobody in
+              let h : SpecState = record g { outstanding = with_token t.id token g.outstanding; delivered = g.delivered ++ (t.id, token) ∷ [] } in
+              let given : Action g h = delivers t.id token s.raft.commit low (pending_at j t there) nobody_has newest_token in
+              let end : Action h (record h { outstanding = token_in y.servers }) = ends (token_in y.servers) (λ term eval other is.
+              ap (λ (f : ℕ → EvalId → Option Token). with_token t.id token f term eval) outstanding ∙ still term eval other (outs term eval other is)) in
+              subst (λ l. Actions g (record g { outstanding = token_in y.servers; delivered = l })) (ap (λ l. l ++ (t.id, token) ∷ []) delivered ∙ sym sent) (more (more none given) end)
+
+      deliver_on : Delivers n nodes events past w run L one x y → After
+      deliver_on (no_delivery sent outs) =
+          subst (λ l. Actions g (record g { outstanding = token_in y.servers; delivered = l })) (delivered ∙ sym sent)
+          (more none (ends (token_in y.servers) (λ term eval other is. ap (λ (f : ℕ → EvalId → Option Token). f term eval) outstanding ∙ outs term eval other is)))
+      deliver_on (delivery i s d j t here leads is_open there free sent outs) = one_more i s d here leads is_open j t there free sent outs
+
     -- all of it
-    pub stepped : (e : Event) → IsEvent x e → happens x e ≡ Ok y → Actions (state k x) (state (suc k) y)
+    pub stepped : AreMade n nodes events past w run L one k x → (e : Event) → IsEvent x e → happens x e ≡ Ok y → Actions (state k x) (state (suc k) y)
     unfolding state long done
-    stepped e fit h =
+    stepped made e fit h =
         let rise : done k ≤ done (suc k) = then_rises (logs past) (raft_of w) counted k in
         let le : done (suc k) ≤ length (take (long (suc k)) L) = omega (arith, done_within (suc k), long_list (suc k)) in
         let g1 : SpecState = record (state k x) { log = take (long (suc k)) L } in
@@ -324,5 +435,5 @@ module _ (n : ℕ) (nodes : List NodeSpec) (events : List Event) (past : List Wo
         let g2 : SpecState = record g { applied = map applied_by y.servers } in
         let clients_go = clients_on x y g2 refl all_placed (event_clients x y e h) in
         let g3 : SpecState = record g2 { started = map started_by y.clients } in
-        let last : Actions g3 (state (suc k) y) = acts_one _ _ (workers (token_in y.servers) (terms (suc k) y next)) in
+        let last : Actions g3 (state (suc k) y) = deliver_on made g3 refl refl refl refl (event_delivers n nodes events past w run L one k x y at next e h) in
         then_on _ _ _ (then_on _ _ _ (then_on _ _ _ (then_on _ _ _ appended committed) servers_go) clients_go) last

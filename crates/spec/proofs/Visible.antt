@@ -45,6 +45,7 @@ shows_seen : (w : World) (g : SpecState) → Shows w g → visible_of g ≡ visi
 shows_seen w g s = (λ j. record {
   states = (ap (map (option_map (λ k. state_of (take k g.log)))) (sym s.servers) ∙ all_states g.log w.servers s.entries) j;
   started = sym s.clients j;
+  delivered = sym s.delivered j;
 })
 
 showed : (n : ℕ) (nodes : List NodeSpec) (past : List World) (w : World) (g : SpecState) → Refines n nodes past w g → Behavior n (length nodes) (map visible_in (past ++ w ∷ [])) g

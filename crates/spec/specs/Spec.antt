@@ -1,8 +1,9 @@
 -- The specification: the whole group as one state machine that never fails. Its state is one log,
 -- how far that is committed, what each server has applied of it, what each client ever started, and
--- which evaluations are outstanding. It knows no message, no election and no byte.
-use Rattle.std.specs.Prelude.{◌≡◌, ◌≢◌, ℕ, suc, ◌-◌, ◌≤◌, Option, Some, None, List, [], ◌∷◌, ◌++◌, length, replicate, slice_get, slice_set}
+-- which evaluations were delivered to workers. It knows no message, no election and no byte.
+use Rattle.std.specs.Prelude.{◌≡◌, ◌≢◌, ℕ, suc, ◌-◌, ◌<◌, ◌≤◌, nat_eq, true, ◌&&◌, if◌then◌else◌, Option, Some, None, List, [], ◌∷◌, ◌++◌, length, take, replicate, slice_get, slice_set}
 use Rattle.rows.specs.declared.evaluation.EvalId.{EvalId}
+use Rattle.rows.specs.declared.evaluation.Evaluation.{Evaluation}
 use Rattle.rows.specs.declared.allocation.AllocId.{AllocId}
 use Rattle.rows.specs.declared.token.Token.{Token}
 use Rattle.rows.specs.declared.command.AcceptedPlace.{AcceptedPlace}
@@ -11,7 +12,7 @@ use Rattle.rows.specs.declared.command.Command.{Command}
 use Rattle.rows.specs.declared.command.Command.TheVariants as commands
 use Rattle.machine_model.specs.declared.entry.Entry.{Entry}
 use Rattle.raft_model.specs.Logs.{last_term}
-use Rattle.cluster_model.specs.Words.{State, no_rows}
+use Rattle.cluster_model.specs.Words.{State, no_rows, same_eval, is_pending}
 use Rattle.cluster_model.specs.Effect.{applied}
 use Rattle.cluster_model.specs.Admission.{admission}
 
@@ -27,6 +28,8 @@ pub record SpecState : Type 0 where
   pub started : List (List AllocId)
   -- in a term: the token under which an evaluation is outstanding
   pub outstanding : ℕ → EvalId → Option Token
+  -- all evaluations that were ever delivered to workers, each with its token
+  pub delivered : List (EvalId × Token)
 
 -- n servers and k clients, before anything
 abbrev pub init : ℕ → ℕ → SpecState
@@ -36,6 +39,7 @@ init n k = record {
   applied = replicate n (Some 0);
   started = replicate k [];
   outstanding = λ term eval. None;
+  delivered = [];
 }
 
 -- the state after some entries, from s on
@@ -72,6 +76,23 @@ pub record IsPlaced (g : SpecState) (node : ℕ) (id : AllocId) : Type 0 where
   pub place_is : slice_get plan.places id.slot ≡ Some place
   pub on : place.node ≡ node
 
+-- an evaluation of the state is pending
+pub record IsPending (s : State) (eval : EvalId) : Type 0 where
+  pub place : ℕ
+  pub row : Evaluation
+  pub here : slice_get s.evals place ≡ Some row
+  pub same : row.id ≡ eval
+  pub pending : is_pending row.status ≡ true
+
+-- every token of its term so far has a smaller serial
+abbrev pub IsNewest : SpecState → Token → Type 0
+IsNewest g token = (j : ℕ) (old : EvalId × Token) → slice_get g.delivered j ≡ Some old → old.1.term ≡ token.term → old.1.serial < token.serial
+
+-- the evaluation is outstanding under this token, in the token's term
+abbrev pub with_token : EvalId → Token → (ℕ → EvalId → Option Token) → ℕ → EvalId → Option Token
+with_token eval token outstanding t e =
+    if nat_eq t token.term && same_eval e eval then Some token else outstanding t e
+
 -- one action
 pub data Action (g : SpecState) : SpecState → Type 0 where
   -- a leader appends an entry
@@ -85,10 +106,17 @@ pub data Action (g : SpecState) : SpecState → Type 0 where
   starts : (c : ℕ) (ids : List AllocId) (id : AllocId) →
       slice_get g.started c ≡ Some ids → ((j : ℕ) → slice_get ids j ≢ Some id) → IsPlaced g (suc c) id →
       Action g (record g { started = slice_set g.started c (ids ++ id ∷ []) })
-  -- workers are given evaluations, and are done with them: each token is of its term
-  workers : (out : ℕ → EvalId → Option Token) →
-      ((term : ℕ) (eval : EvalId) (token : Token) → out term eval ≡ Some token → token.term ≡ term) →
-      Action g (record g { outstanding = out })
+  -- a leader delivers to a worker an evaluation that is pending after some committed entries and
+  -- that is not outstanding, under a new token of its term
+  delivers : (eval : EvalId) (token : Token) (k : ℕ) →
+      k ≤ g.committed → IsPending (state_of (take k g.log)) eval →
+      g.outstanding token.term eval ≡ None → IsNewest g token →
+      Action g (record g { outstanding = with_token eval token g.outstanding; delivered = g.delivered ++ (eval, token) ∷ [] })
+  -- evaluations are outstanding no more: they are acked, nacked or pending no more, their time is
+  -- up, or their leader steps down
+  ends : (outstanding : ℕ → EvalId → Option Token) →
+      ((term : ℕ) (eval : EvalId) (token : Token) → outstanding term eval ≡ Some token → g.outstanding term eval ≡ Some token) →
+      Action g (record g { outstanding = outstanding })
 
 -- any number of actions, one after the other
 pub data Actions (g : SpecState) : SpecState → Type 0 where

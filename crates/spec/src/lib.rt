@@ -5,7 +5,7 @@ ghost use Rattle.raft_safety.specs.Claims as raft_claims;
 ghost use Rattle.group_safety.specs.Claims.{EachRun, OfTheList, SafeStates};
 ghost use Rattle.spec.specs.LogSpec.{RefinesLog};
 ghost use Rattle.spec.specs.Refinement.{RefinesSpec, ShowsSpec};
-ghost use Rattle.spec.specs.Safety.{SpecIsSafe, AppliedGrows};
+ghost use Rattle.spec.specs.Safety.{SpecIsSafe, AppliedGrows, TokensFence};
 
 use machine_model::Machine;
 
@@ -16,7 +16,7 @@ pub fn every_run_refines_the_spec()
 {}
 
 /// What is visible of a run, moment by moment, is what the specification shows: the state of each
-/// server, and what each client ever started.
+/// server, what each client ever started, and what was delivered to workers.
 pub fn every_run_shows_the_spec()
     ensures { EachRun (λ n nodes events past w. ShowsSpec n nodes past w) }
 {}
@@ -29,6 +29,13 @@ pub fn every_run_shows_the_spec()
 pub fn the_spec_is_safe()
     ensures safe { SpecIsSafe }
     ensures grows { AppliedGrows }
+{}
+
+/// The specification's tokens are fencing tokens: a plan is appended only under a token that was
+/// delivered for its evaluation in its own term, and once a plan is appended under a token, no plan
+/// of that evaluation follows in that term under an older one.
+pub fn tokens_fence()
+    ensures { TokensFence }
 {}
 
 /// Safe states of a run's one list, from the specification alone.
