@@ -1,18 +1,17 @@
 -- The tokens under which tasks are outstanding, where one task changes and where the tasks follow a
 -- state.
-use Rattle.std.proofs.Common.{◌≡◌, ℕ, zero, suc, ◌⊎◌, inl, inr, Bool, true, false, cond, ◌&&◌, nat_eq, nat_lt, Option, Some, None, List, [], ◌∷◌, map, filter, refl, sym, ap, ◌∙◌, subst, arith, slice_get}
+use Rattle.std.proofs.Common.{◌≡◌, ℕ, zero, suc, ◌⊎◌, inl, inr, Bool, true, false, cond, ◌&&◌, nat_eq, nat_lt, Option, Some, None, List, [], ◌∷◌, map, filter, refl, sym, ap, ◌∙◌, arith, slice_get}
 use Rattle.std.proofs.lemmas.Bool.{and_parts, eqb-true}
 use Rattle.std.proofs.lemmas.Option.{same_Some}
-use Rattle.std.specs.Ordering.{nat_cmp, ordering_then, is_eq}
+use Rattle.std.specs.Ordering.{nat_cmp, is_eq}
 use Rattle.rows.specs.declared.evaluation.EvalId.{EvalId}
 use Rattle.rows.specs.declared.evaluation.Evaluation.{Evaluation}
 use Rattle.rows.specs.declared.token.Token.{Token}
 use Rattle.rows.specs.Keys.{eval_cmp}
-use Rattle.raft_model.proofs.Cases.{bool_cases}
 use Rattle.fsm_tables.proofs.Bounds.{eq_then}
 use Rattle.cluster_model.specs.Words.{same_eval}
 use Rattle.group_model.specs.Order.{Picked, or_head, pick, picked_one, first_by}
-use Rattle.group_model.specs.Brokers.{Mark, Free, Out, Acked, Task, task_id, task_of, with_task, carry, is_free, may_be_given, job_is_free, MOST, next}
+use Rattle.group_model.specs.Brokers.{Mark, Free, Out, Acked, Task, task_of, with_task, carry, is_free, may_be_given, job_is_free, MOST, next}
 use Rattle.group_safety.specs.Deliveries.{token_of_mark, token_of_task, token_among}
 
 numbers_tie : (n m : ℕ) → is_eq (nat_cmp n m) ≡ nat_eq n m
@@ -48,10 +47,10 @@ module _ (id : EvalId) (f : Task → Task) (same : (t : Task) → (f t).id ≡ t
   changed_token (t ∷ tasks) h =
       let key : is_eq (eval_cmp eval (cond (same_eval t.id id) (f t) t).id) ≡ is_eq (eval_cmp eval t.id) = ap (λ k. is_eq (eval_cmp eval k)) (other_task (same_eval t.id id) t) in
       by (λ q. changed_token tasks q) (is_eq (eval_cmp eval t.id)) refl (ap (λ b. token_of_task (cond b (Some (cond (same_eval t.id id) (f t) t)) (task_of eval (with_task id f tasks)))) (sym key) ∙ h) where
-    by : (token_among eval (with_task id f tasks) ≡ Some token → Changed ⊎ (token_among eval tasks ≡ Some token)) → (b : Bool) → is_eq (eval_cmp eval t.id) ≡ b → token_of_task (cond b (Some (cond (same_eval t.id id) (f t) t)) (task_of eval (with_task id f tasks))) ≡ Some token →
-        Changed ⊎ (token_of_task (cond b (Some t) (task_of eval tasks)) ≡ Some token)
-    by rest true is q = head_token (same_eval t.id id) t refl is q
-    by rest false is q = rest q
+        by : (token_among eval (with_task id f tasks) ≡ Some token → Changed ⊎ (token_among eval tasks ≡ Some token)) → (b : Bool) → is_eq (eval_cmp eval t.id) ≡ b → token_of_task (cond b (Some (cond (same_eval t.id id) (f t) t)) (task_of eval (with_task id f tasks))) ≡ Some token →
+            Changed ⊎ (token_of_task (cond b (Some t) (task_of eval tasks)) ≡ Some token)
+        by rest true is q = head_token (same_eval t.id id) t refl is q
+        by rest false is q = rest q
 
 -- ---- tasks follow a state
 
@@ -70,9 +69,9 @@ module _ (old : List Task) (eval : EvalId) (token : Token) where
   followed_token (e ∷ es) h =
       let key : is_eq (eval_cmp eval (carry e (task_of e.id old)).id) ≡ is_eq (eval_cmp eval e.id) = ap (λ k. is_eq (eval_cmp eval k)) (carry_id e (task_of e.id old)) in
       by (λ q. followed_token es q) (is_eq (eval_cmp eval e.id)) refl (ap (λ b. token_of_task (cond b (Some (carry e (task_of e.id old))) (task_of eval (map (λ x. carry x (task_of x.id old)) es)))) (sym key) ∙ h) where
-    by : (token_among eval (map (λ x. carry x (task_of x.id old)) es) ≡ Some token → token_among eval old ≡ Some token) → (b : Bool) → is_eq (eval_cmp eval e.id) ≡ b → token_of_task (cond b (Some (carry e (task_of e.id old))) (task_of eval (map (λ x. carry x (task_of x.id old)) es))) ≡ Some token → token_among eval old ≡ Some token
-    by rest true is q = ap (λ k. token_among k old) (ids_tie eval e.id is) ∙ carried e (task_of e.id old) q
-    by rest false is q = rest q
+        by : (token_among eval (map (λ x. carry x (task_of x.id old)) es) ≡ Some token → token_among eval old ≡ Some token) → (b : Bool) → is_eq (eval_cmp eval e.id) ≡ b → token_of_task (cond b (Some (carry e (task_of e.id old))) (task_of eval (map (λ x. carry x (task_of x.id old)) es))) ≡ Some token → token_among eval old ≡ Some token
+        by rest true is q = ap (λ k. token_among k old) (ids_tie eval e.id is) ∙ carried e (task_of e.id old) q
+        by rest false is q = rest q
 
 -- ---- the task that goes next
 
@@ -84,6 +83,7 @@ module _ {X : Type 0} where
     by_less : ((z : X) → first_by priority ys ≡ Some z → (j : ℕ) × (slice_get ys j ≡ Some z)) → (p : Picked X) (b : Bool) → pick priority ys ≡ Some p → (cond {A = Picked X} b (record { one = p.one; others = y ∷ p.others }) (record { one = y; others = ys })).one ≡ x → (j : ℕ) × (slice_get (y ∷ ys) j ≡ Some x)
     by_less rest p true is q = let r = rest p.one (ap (picked_one priority) is) in (suc r.0, r.1 ∙ ap Some q)
     by_less rest p false is q = (0, ap Some q)
+
     by : ((z : X) → first_by priority ys ≡ Some z → (j : ℕ) × (slice_get ys j ≡ Some z)) → (o : Option (Picked X)) → pick priority ys ≡ o → (or_head priority y ys o).one ≡ x → (j : ℕ) × (slice_get (y ∷ ys) j ≡ Some x)
     by rest None is q = (0, ap Some q)
     by rest (Some p) is q = by_less rest p (nat_lt (priority y) (priority p.one)) is q

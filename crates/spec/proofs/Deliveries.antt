@@ -1,15 +1,13 @@
 -- What an event delivers, and what it leaves outstanding at leaders' desks.
-use Rattle.std.proofs.Common.{◌≡◌, ◌≢◌, ℕ, zero, suc, ◌≤◌, ◌<◌, ◌⊎◌, inl, inr, Bool, true, false, cond, ◌&&◌, ◌==◌, Option, Some, None, Ok, List, [], ◌∷◌, ◌++◌, length, map, filter, take, T, refl, sym, ap, ◌∙◌, subst, arith, slice_get, slice_set, append-nil}
-use Rattle.std.proofs.lemmas.Bool.{and_parts, and_from, eqb-true, eq-eqb}
+use Rattle.std.proofs.Common.{◌≡◌, ◌≢◌, ℕ, suc, ◌≤◌, ◌⊎◌, inl, inr, Bool, true, false, cond, ◌&&◌, ◌==◌, Option, Some, None, Ok, List, [], ◌∷◌, ◌++◌, length, take, refl, sym, ap, ◌∙◌, subst, arith, slice_get, append-nil}
+use Rattle.std.proofs.lemmas.Bool.{and_parts, eqb-true}
 use Rattle.std.proofs.lemmas.Option.{same_Some}
 use Rattle.rows.specs.declared.node.NodeSpec.{NodeSpec}
 use Rattle.rows.specs.declared.evaluation.EvalId.{EvalId}
-use Rattle.rows.specs.declared.evaluation.Evaluation.{Evaluation}
 use Rattle.rows.specs.declared.token.Token.{Token}
 use Rattle.rows.specs.declared.command.Command.{Command}
 use Rattle.machine_model.specs.declared.entry.Entry.{Entry}
 use Rattle.raft_model.specs.Rafts.{Raft, Mode, Down, Follower, Candidate, Leader, is_leader}
-use Rattle.raft_model.specs.Worlds as raft_worlds
 use Rattle.raft_model.proofs.Leading.{Leading, goes_on, hears, appends as proposes, wins, step_leads}
 use Rattle.raft_model.proofs.Cases.{bool_cases}
 use Rattle.raft_safety.proofs.Places.{get_set-same, get_set-cases, get-where, get-one, get-within}
@@ -17,17 +15,17 @@ use Rattle.cluster_model.specs.Words.{State}
 use Rattle.cluster_model.specs.Effect.{applied}
 use Rattle.cluster_model.specs.ClusterMachine.{cluster_meaning}
 use Rattle.group_model.specs.Brokers.{Free, Task, next_token}
-use Rattle.group_model.specs.Desks.{Desk, opened, follow_state, after_entry, after_entries, applied_state, newly}
+use Rattle.group_model.specs.Desks.{Desk, opened, after_entry, after_entries, applied_state, newly}
 use Rattle.group_model.specs.Servers.{Server}
-use Rattle.group_model.specs.Worlds.{World, Event, Run, IsEvent, happens, moment, raft_of, raft_part}
-use Rattle.group_safety.specs.Claims.{Projection, ServerAt, OneList}
-use Rattle.group_safety.specs.Desks.{may_serve, has_own, DeskIs}
+use Rattle.group_model.specs.Worlds.{World, Event, Run, happens, moment, raft_of, raft_part}
+use Rattle.group_safety.specs.Claims.{ServerAt, OneList}
+use Rattle.group_safety.specs.Desks.{has_own, DeskIs}
 use Rattle.group_safety.specs.Deliveries.{deliveries, token_among, token_at, token_in}
 use Rattle.group_safety.proofs.Chained as chained
-use Rattle.group_safety.proofs.DeskActs.{Same, Like, Gave, gave_none, gave_one}
+use Rattle.group_safety.proofs.DeskActs.{Like, Gave, gave_none, gave_one}
 use Rattle.group_safety.proofs.DeskSteps as desk_steps
 use Rattle.group_safety.proofs.DeskSteps.{Handled, quiet}
-use Rattle.group_safety.proofs.DeskRuns.{OneSteps, ServersGo, event_servers, desks, server_log}
+use Rattle.group_safety.proofs.DeskRuns.{OneSteps, event_servers, desks, server_log}
 use Rattle.group_safety.proofs.LedTerms.{IsPast, past_later}
 use Rattle.group_safety.proofs.Lists.{get_map}
 use Rattle.group_safety.proofs.Moments.{log_moment, to_log}

@@ -1,15 +1,14 @@
 -- What is out at the desk of a term's leader.
-use Rattle.std.proofs.Common.{◌≡◌, ℕ, zero, suc, inl, inr, Bool, true, false, cond, ◌&&◌, ◌==◌, nat_eq, Option, Some, None, Result, Ok, Err, List, [], ◌∷◌, refl, sym, ap, ◌∙◌, subst, slice_get, arith}
+use Rattle.std.proofs.Common.{◌≡◌, ℕ, zero, suc, inl, inr, Bool, true, false, cond, ◌&&◌, ◌==◌, nat_eq, Option, Some, None, Result, Ok, Err, List, [], ◌∷◌, refl, ap, ◌∙◌, slice_get, arith}
 use Rattle.std.proofs.lemmas.Bool.{and_parts, and_from, eqb-true, eq-eqb}
 use Rattle.std.proofs.lemmas.Option.{same_Some}
 use Rattle.rows.specs.declared.evaluation.EvalId.{EvalId}
 use Rattle.rows.specs.declared.token.Token.{Token}
 use Rattle.rows.specs.declared.refusal.Refusal.{Refusal}
 use Rattle.rows.specs.declared.refusal.Refusal.TheVariants as refusals
-use Rattle.rows.specs.Keys.{eval_cmp}
 use Rattle.raft_model.specs.Rafts.{is_leader}
 use Rattle.raft_model.proofs.Cases.{bool_cases}
-use Rattle.group_model.specs.Brokers.{Mark, Free, Out, Acked, Task, task_id, task_of, same_token, marked_out, task_out, outstanding}
+use Rattle.group_model.specs.Brokers.{Mark, Free, Out, Acked, Task, task_of, same_token, marked_out, task_out, outstanding}
 use Rattle.group_model.specs.Desks.{Desk}
 use Rattle.group_model.specs.Servers.{Server}
 use Rattle.group_safety.specs.Deliveries.{token_of_mark, token_of_task, token_at, token_in}

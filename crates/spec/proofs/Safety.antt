@@ -1,15 +1,15 @@
 -- The specification is safe, action by action.
-use Rattle.std.proofs.Common.{◌≡◌, ℕ, zero, suc, ◌-◌, ◌≤◌, inl, inr, Option, Some, None, List, [], ◌∷◌, ◌++◌, length, take, replicate, refl, sym, ap, ◌∙◌, subst, arith, slice_get, take_all}
+use Rattle.std.proofs.Common.{◌≡◌, ℕ, zero, suc, ◌-◌, ◌≤◌, inl, inr, Option, Some, None, List, [], ◌∷◌, ◌++◌, length, take, replicate, refl, sym, ap, ◌∙◌, subst, arith, slice_get, take_all, ◌≢◌, ◌⊎◌, nat_eq, slice_set}
 use Rattle.std.proofs.lemmas.Bool.Decides.{leb_tells}
 use Rattle.std.proofs.lemmas.Option.{same_Some}
-use Rattle.rows.specs.declared.evaluation.EvalId.{EvalId}
+use Rattle.std.proofs.lemmas.Bool.{eqb-true, eqb-false}
+use Rattle.raft_model.proofs.Cases.{bool_cases}
 use Rattle.rows.specs.declared.allocation.AllocId.{AllocId}
-use Rattle.rows.specs.declared.token.Token.{Token}
 use Rattle.rows.specs.declared.command.AcceptedPlan.{AcceptedPlan}
 use Rattle.rows.specs.declared.command.Command.{Command}
 use Rattle.rows.specs.declared.command.Command.TheVariants as commands
 use Rattle.machine_model.specs.declared.entry.Entry.{Entry}
-use Rattle.raft_safety.proofs.Places.{take_get, get_set-cases, get-where, get-one, get-more, get-within, take_append, take_none, push_length}
+use Rattle.raft_safety.proofs.Places.{take_get, get_set-same, get_set-cases, get-where, get-one, get-more, get-within, take_append, take_none, push_length}
 use Rattle.cluster_model.specs.Words.{State, no_rows}
 use Rattle.cluster_model.specs.Effect.{applied}
 use Rattle.cluster_model.specs.Admission.{admission}
@@ -19,7 +19,7 @@ use Rattle.cluster_model.proofs.ClusterMachine.{cluster_lawful}
 use Rattle.spec.specs.Spec.{SpecState, init, state_from, state_of, ServerStep, applies, crashes, restarts, IsPlaced, Action, appends, commits, at_server, starts, delivers, ends, Actions, none, more}
 use Rattle.raft_model.specs.Logs.{term_at}
 use Rattle.group_safety.proofs.Fresh.{term_get}
-use Rattle.spec.specs.Safety.{WasOutstanding, IsAllocated}
+use Rattle.spec.specs.Safety.{WasOutstanding, IsAllocated, Stays}
 use Rattle.spec.specs.Safety as safety
 
 -- the same in the specification's own words
@@ -28,7 +28,7 @@ record Holds (n c : ℕ) (g : SpecState) : Type 0 where
   applied : (i k : ℕ) → slice_get g.applied i ≡ Some (Some k) → k ≤ g.committed
   terms : (p : ℕ) (d e : Entry Command) → slice_get g.log p ≡ Some d → slice_get g.log (suc p) ≡ Some e → d.term ≤ e.term
   safe : (k : ℕ) → Safe (state_of (take k g.log))
-  backed : (p : ℕ) (e : Entry Command) (plan : AcceptedPlan) → slice_get g.log p ≡ Some e → e.command ≡ commands.Plan plan → WasOutstanding n c g.log p e plan
+  backed : (p : ℕ) (e : Entry Command) (plan : AcceptedPlan) → slice_get g.log p ≡ Some e → e.command ≡ commands.Plan plan → WasOutstanding n c g.log p e.term plan
   placed : (k : ℕ) (ids : List AllocId) (j : ℕ) (id : AllocId) → slice_get g.started k ≡ Some ids → slice_get ids j ≡ Some id → IsPlaced g (suc k) id
   once : (k : ℕ) (ids : List AllocId) (i j : ℕ) (id : AllocId) → slice_get g.started k ≡ Some ids → slice_get ids i ≡ Some id → slice_get ids j ≡ Some id → i ≡ j
 
@@ -37,8 +37,7 @@ told g node id p = record {
   plan = p.plan;
   place = p.place;
   term = (let e = p.entry in e.term);
-  committed = p.committed;
-  entry = take_get g.committed g.log (id.index - 1) (omega (arith, p.one, p.committed)) ∙ (p.entry_is ∙ ap (λ (c : Command). Some (record { term = (let e = p.entry in e.term); command = c })) p.plan_is);
+  plan_is = take_get g.committed g.log (id.index - 1) (omega (arith, p.one, p.committed)) ∙ (p.entry_is ∙ ap (λ (c : Command). Some (record { term = (let e = p.entry in e.term); command = c })) p.plan_is);
   place_is = p.place_is;
   on = p.on;
 }
@@ -202,7 +201,7 @@ module _ (n c : ℕ) where
     applied = p.applied;
     terms = p.terms;
     safe = p.safe;
-    backed = p.backed;
+    backed = λ q term plan at. p.backed q (record { term = term; command = commands.Plan plan }) plan at refl;
     placed = λ k ids j id at there. told g (suc k) id (p.placed k ids j id at there);
     once = p.once;
   }
@@ -226,3 +225,77 @@ stays_up g h (at_server d old new here m) i j k a b = elim (get_set-cases g.appl
 stays_up g h (starts c ids id here new p) i j k a b = same_up g.applied i j k a b
 stays_up g h (delivers eval token m le pending free newest) i j k a b = same_up g.applied i j k a b
 stays_up g h (ends outstanding stays_so) i j k a b = same_up g.applied i j k a b
+
+-- ---- what is there stays
+
+case_nat : (m n : ℕ) → (m ≡ n) ⊎ (m ≢ n)
+case_nat m n = elim (bool_cases (nat_eq m n)) [ inl e ↦ inl (eqb-true m n e) | inr e ↦ inr (eqb-false m n e) ]
+
+get_set-other : {A : Type 0} (xs : List A) (i : ℕ) (x : A) (j : ℕ) → (i ≢ j) → slice_get (slice_set xs i x) j ≡ slice_get xs j
+get_set-other [] i x j other = refl
+get_set-other (y ∷ ys) zero x zero other = absurd (other refl)
+get_set-other (y ∷ ys) zero x (suc j) other = refl
+get_set-other (y ∷ ys) (suc i) x zero other = refl
+get_set-other (y ∷ ys) (suc i) x (suc j) other = get_set-other ys i x j (λ e. other (ap suc e))
+
+stays_one : (g h : SpecState) → Action g h → Stays g h
+stays_one g h (appends e f) = record {
+  committed = omega arith;
+  entries = λ p d at. get-more g.log (e ∷ []) p d at;
+  started = λ k ids j id at there. (ids, at, there);
+  delivered = λ j pair at. at;
+}
+stays_one g h (commits m rise fits) = record {
+  committed = rise;
+  entries = λ p d at. at;
+  started = λ k ids j id at there. (ids, at, there);
+  delivered = λ j pair at. at;
+}
+stays_one g h (at_server i old new here m) = record {
+  committed = omega arith;
+  entries = λ p d at. at;
+  started = λ k ids j id at there. (ids, at, there);
+  delivered = λ j pair at. at;
+}
+stays_one g h (starts c all id here new p) = record {
+  committed = omega arith;
+  entries = λ p d at. at;
+  started = λ k ids j x at there. elim (case_nat c k) [
+    | inl same ↦ (
+      all ++ id ∷ [],
+      subst (λ i. slice_get (slice_set g.started c (all ++ id ∷ [])) i ≡ Some (all ++ id ∷ [])) same (get_set-same g.started c (all ++ id ∷ []) (get-within g.started c all here)),
+      get-more all (id ∷ []) j x (ap (λ l. slice_get l j) (same_Some all ids (sym here ∙ (ap (slice_get g.started) same ∙ at))) ∙ there),
+    )
+    | inr other ↦ (ids, get_set-other g.started c (all ++ id ∷ []) k other ∙ at, there)
+  ];
+  delivered = λ j pair at. at;
+}
+stays_one g h (delivers eval token k le pending free newest) = record {
+  committed = omega arith;
+  entries = λ p d at. at;
+  started = λ k ids j id at there. (ids, at, there);
+  delivered = λ j pair at. get-more g.delivered ((eval, token) ∷ []) j pair at;
+}
+stays_one g h (ends outstanding stays_so) = record {
+  committed = omega arith;
+  entries = λ p d at. at;
+  started = λ k ids j id at there. (ids, at, there);
+  delivered = λ j pair at. at;
+}
+
+stays_both : (f g h : SpecState) → Stays f g → Stays g h → Stays f h
+stays_both f g h a b = record {
+  committed = omega (arith, a.committed, b.committed);
+  entries = λ p e at. b.entries p e (a.entries p e at);
+  started = λ k ids j id at there. let s = a.started k ids j id at there in b.started k s.0 j id s.1 s.2;
+  delivered = λ j pair at. b.delivered j pair (a.delivered j pair at);
+}
+
+pub nothing_lost : (g h : SpecState) → Actions g h → Stays g h
+nothing_lost g h none = record {
+  committed = omega arith;
+  entries = λ p e at. at;
+  started = λ k ids j id at there. (ids, at, there);
+  delivered = λ j pair at. at;
+}
+nothing_lost g h (more {h = f} a b) = stays_both g f h (nothing_lost g f a) (stays_one f h b)

@@ -212,7 +212,6 @@ leader_up Follower h = refl
 leader_up (Candidate votes) h = refl
 leader_up (Leader next match) h = refl
 
-
 module _ (n : ℕ) (nodes : List NodeSpec) (events : List Event) (past : List World) (w : World) (run : Run n nodes events past w) (L : List (Entry Command)) (one : OneList past w L) where
   pub matched : LogMatching (logs past) (raft_of w)
   matched = chained.matched n nodes events past w run

@@ -1,6 +1,7 @@
 -- The specification: the whole group as one state machine that never fails. Its state is one log,
 -- how far that is committed, what each server has applied of it, what each client ever started, and
--- which evaluations were delivered to workers. It knows no message, no election and no byte.
+-- which evaluations were delivered to workers. It knows no message, no election and no byte. A term
+-- is the number of a leader; an entry is a command with the term in which it was appended.
 use Rattle.std.specs.Prelude.{◌≡◌, ◌≢◌, ℕ, suc, ◌-◌, ◌<◌, ◌≤◌, nat_eq, true, ◌&&◌, if◌then◌else◌, Option, Some, None, List, [], ◌∷◌, ◌++◌, length, take, replicate, slice_get, slice_set}
 use Rattle.rows.specs.declared.evaluation.EvalId.{EvalId}
 use Rattle.rows.specs.declared.evaluation.Evaluation.{Evaluation}
@@ -16,8 +17,7 @@ use Rattle.cluster_model.specs.Words.{State, no_rows, same_eval, is_pending}
 use Rattle.cluster_model.specs.Effect.{applied}
 use Rattle.cluster_model.specs.Admission.{admission}
 
--- An entry is a command with the term in which it was appended. Servers stand at their numbers from
--- 0, the client of node k at place k - 1.
+-- Servers stand at their numbers from 0, the client of node k at place k - 1.
 pub record SpecState : Type 0 where
   pub log : List (Entry Command)
   -- how many of its first entries are committed
@@ -26,9 +26,9 @@ pub record SpecState : Type 0 where
   pub applied : List (Option ℕ)
   -- the allocations that each client ever started
   pub started : List (List AllocId)
-  -- in a term: the token under which an evaluation is outstanding
+  -- in a term: the token under which an evaluation is outstanding, that is, with a worker
   pub outstanding : ℕ → EvalId → Option Token
-  -- all evaluations that were ever delivered to workers, each with its token
+  -- the evaluations that were ever delivered to workers, each with its token
   pub delivered : List (EvalId × Token)
 
 -- n servers and k clients, before anything
@@ -55,7 +55,8 @@ state_of entries = state_from no_rows entries
 pub record MayFollow (g : SpecState) (e : Entry Command) : Type 0 where
   pub term : last_term g.log ≤ e.term
   pub admitted : admission (state_of g.log) e.command ≡ None
-  pub token : (plan : AcceptedPlan) → e.command ≡ commands.Plan plan → g.outstanding e.term plan.eval ≡ Some plan.token
+  pub token : (plan : AcceptedPlan) →
+      e.command ≡ commands.Plan plan → g.outstanding e.term plan.eval ≡ Some plan.token
 
 -- A server applies more of what is committed, crashes, or restarts with some first entries of it.
 pub data ServerStep (committed : ℕ) : Option ℕ → Option ℕ → Type 0 where
@@ -76,7 +77,7 @@ pub record IsPlaced (g : SpecState) (node : ℕ) (id : AllocId) : Type 0 where
   pub place_is : slice_get plan.places id.slot ≡ Some place
   pub on : place.node ≡ node
 
--- an evaluation of the state is pending
+-- the evaluation is pending in the state
 pub record IsPending (s : State) (eval : EvalId) : Type 0 where
   pub place : ℕ
   pub row : Evaluation
@@ -86,7 +87,9 @@ pub record IsPending (s : State) (eval : EvalId) : Type 0 where
 
 -- every token of its term so far has a smaller serial
 abbrev pub IsNewest : SpecState → Token → Type 0
-IsNewest g token = (j : ℕ) (old : EvalId × Token) → slice_get g.delivered j ≡ Some old → old.1.term ≡ token.term → old.1.serial < token.serial
+IsNewest g token =
+    (j : ℕ) (old : EvalId × Token) → slice_get g.delivered j ≡ Some old →
+    old.1.term ≡ token.term → old.1.serial < token.serial
 
 -- the evaluation is outstanding under this token, in the token's term
 abbrev pub with_token : EvalId → Token → (ℕ → EvalId → Option Token) → ℕ → EvalId → Option Token
@@ -99,23 +102,29 @@ pub data Action (g : SpecState) : SpecState → Type 0 where
   appends : (e : Entry Command) → MayFollow g e → Action g (record g { log = g.log ++ e ∷ [] })
   -- more of the log is committed
   commits : (k : ℕ) → g.committed ≤ k → k ≤ length g.log → Action g (record g { committed = k })
+  -- a server applies, crashes or restarts
   at_server : (i : ℕ) (old new : Option ℕ) →
       slice_get g.applied i ≡ Some old → ServerStep g.committed old new →
       Action g (record g { applied = slice_set g.applied i new })
   -- a client starts an allocation that is placed on its node and that it never started
   starts : (c : ℕ) (ids : List AllocId) (id : AllocId) →
-      slice_get g.started c ≡ Some ids → ((j : ℕ) → slice_get ids j ≢ Some id) → IsPlaced g (suc c) id →
+      slice_get g.started c ≡ Some ids → ((j : ℕ) → slice_get ids j ≢ Some id) →
+      IsPlaced g (suc c) id →
       Action g (record g { started = slice_set g.started c (ids ++ id ∷ []) })
   -- a leader delivers to a worker an evaluation that is pending after some committed entries and
-  -- that is not outstanding, under a new token of its term
+  -- is not outstanding, under a new token of its term
   delivers : (eval : EvalId) (token : Token) (k : ℕ) →
       k ≤ g.committed → IsPending (state_of (take k g.log)) eval →
       g.outstanding token.term eval ≡ None → IsNewest g token →
-      Action g (record g { outstanding = with_token eval token g.outstanding; delivered = g.delivered ++ (eval, token) ∷ [] })
+      Action g (record g {
+        outstanding = with_token eval token g.outstanding;
+        delivered = g.delivered ++ (eval, token) ∷ [];
+      })
   -- evaluations are outstanding no more: they are acked, nacked or pending no more, their time is
   -- up, or their leader steps down
   ends : (outstanding : ℕ → EvalId → Option Token) →
-      ((term : ℕ) (eval : EvalId) (token : Token) → outstanding term eval ≡ Some token → g.outstanding term eval ≡ Some token) →
+      ((term : ℕ) (eval : EvalId) (token : Token) →
+      outstanding term eval ≡ Some token → g.outstanding term eval ≡ Some token) →
       Action g (record g { outstanding = outstanding })
 
 -- any number of actions, one after the other

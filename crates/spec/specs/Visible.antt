@@ -6,8 +6,8 @@ use Rattle.rows.specs.declared.token.Token.{Token}
 use Rattle.cluster_model.specs.Words.{State}
 use Rattle.spec.specs.Spec.{SpecState, init, state_of, Actions}
 
--- the state of each server, none while it is down; the allocations that each client ever started; and
--- the evaluations that were ever delivered to workers, with their tokens
+-- the state of each server, none while it is down; the allocations that each client ever started;
+-- and the evaluations that were ever delivered to workers, with their tokens
 pub record Visible : Type 0 where
   pub states : List (Option State)
   pub started : List (List AllocId)
@@ -24,4 +24,5 @@ visible_of g = record {
 -- go on by its actions; the last state is g.
 pub data Behavior (n c : ℕ) : List Visible → SpecState → Type 0 where
   begins : Behavior n c (visible_of (init n c) ∷ []) (init n c)
-  goes : {shown : List Visible} {g h : SpecState} → Behavior n c shown g → Actions g h → Behavior n c (shown ++ visible_of h ∷ []) h
+  goes : {shown : List Visible} {g h : SpecState} →
+      Behavior n c shown g → Actions g h → Behavior n c (shown ++ visible_of h ∷ []) h

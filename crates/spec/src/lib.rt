@@ -5,7 +5,8 @@ ghost use Rattle.raft_safety.specs.Claims as raft_claims;
 ghost use Rattle.group_safety.specs.Claims.{EachRun, OfTheList, SafeStates};
 ghost use Rattle.spec.specs.LogSpec.{RefinesLog};
 ghost use Rattle.spec.specs.Refinement.{RefinesSpec, ShowsSpec};
-ghost use Rattle.spec.specs.Safety.{SpecIsSafe, AppliedGrows, TokensFence};
+ghost use Rattle.spec.specs.Safety.{SpecIsSafe, NothingIsLost, AppliedGrows};
+ghost use Rattle.spec.specs.Safety.{TokensFence, OneHolder};
 
 use machine_model::Machine;
 
@@ -22,20 +23,27 @@ pub fn every_run_shows_the_spec()
 {}
 
 /// The specification is safe, whatever it does.
-/// - `safe`: what servers have applied is committed, terms never fall, no state has a node
-///   oversubscribed or a name live twice, each plan was appended under an outstanding token of its
-///   term, and what a client started was placed on its node and started once.
-/// - `grows`: while a server is up, what it has applied grows.
+/// - `safe`: what servers have applied is committed; terms never fall; after no first entries of
+///   the log a node is oversubscribed or an allocation name live twice; each plan was appended
+///   under its evaluation's outstanding token; and what a client started was placed on its node,
+///   and started once.
+/// - `stays`: what is committed stays so, and no entry, start or delivery is ever lost.
+/// - `grows`: while a server is up, what it has applied never shrinks.
 pub fn the_spec_is_safe()
     ensures safe { SpecIsSafe }
+    ensures stays { NothingIsLost }
     ensures grows { AppliedGrows }
 {}
 
-/// The specification's tokens are fencing tokens: a plan is appended only under a token that was
-/// delivered for its evaluation in its own term, and once a plan is appended under a token, no plan
-/// of that evaluation follows in that term under an older one.
+/// The specification's tokens are fencing tokens. (Nomad documentation, "Scheduling in Nomad":
+/// evaluation broker; Kleppmann, "Designing Data-Intensive Applications", 2017, chapter 8.)
+/// - `fences`: a plan is appended only under a token that was delivered for its evaluation in its
+///   own term, and after a plan under a newer one no plan of that evaluation follows in that term
+///   under an older one. Tokens of one term are newer and newer.
+/// - `one_holder`: an evaluation that is outstanding is not delivered once more.
 pub fn tokens_fence()
-    ensures { TokensFence }
+    ensures fences { TokensFence }
+    ensures one_holder { OneHolder }
 {}
 
 /// Safe states of a run's one list, from the specification alone.
