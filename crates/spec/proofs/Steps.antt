@@ -318,19 +318,19 @@ module _ (n : ℕ) (nodes : List NodeSpec) (events : List Event) (past : List Wo
     all_placed : (c : ℕ) (a : Agent) (j : ℕ) (id : AllocId) → slice_get y.clients c ≡ Some a → slice_get a.started j ≡ Some id → IsPlaced (record { log = take (long (suc k)) L; committed = done (suc k); applied = map applied_by y.servers; started = map started_by x.clients; outstanding = token_in x.servers; delivered = deliveries x.sent }) (suc c) id
     unfolding done
     all_placed c a j id here there =
-        let p = placed n nodes events past w run L one (suc k) (suc c) a j id (record { world = y; world_is = next; here = here }) there in
-        let most = then_bound (logs past) (raft_of w) counted p.moment (suc k) p.who p.server p.at p.by_then in
-        let early : id.index ≤ done (suc k) = omega (arith, p.applied, most, counted_up p.server p.up) in
+        let found = placed n nodes events past w run L one (suc k) (suc c) a j id (record { world = y; world_is = next; here = here }) there in
+        let most = then_bound (logs past) (raft_of w) counted found.moment (suc k) found.who found.server found.at found.by_then in
+        let early : id.index ≤ done (suc k) = omega (arith, found.applied, most, counted_up found.server found.up) in
         record {
-          entry = p.entry;
-          plan = p.plan;
-          place = p.place;
-          one = p.one;
+          entry = found.entry;
+          plan = found.plan;
+          place = found.place;
+          one = found.one;
           committed = early;
-          entry_is = take_get (long (suc k)) L (id.index - 1) (omega (arith, early, done_within (suc k), p.one)) ∙ p.entry_is;
-          plan_is = p.plan_is;
-          place_is = p.place_is;
-          on = p.on;
+          entry_is = take_get (long (suc k)) L (id.index - 1) (omega (arith, early, done_within (suc k), found.one)) ∙ found.entry_is;
+          plan_is = found.plan_is;
+          place_is = found.place_is;
+          on = found.on;
         }
 
     -- what is delivered, and what is outstanding no more
