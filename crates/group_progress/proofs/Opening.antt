@@ -1,6 +1,6 @@
 -- A group settles as its log does, and its leader's desk is open then.
 use Rattle.std.proofs.Common.{◌≡◌, ℕ, ◌<◌, ◌≤◌, inl, inr, Bool, true, ◌==◌, Some, Ok, List, [], ◌∷◌, ◌++◌, length, take, sym, ap, ◌∙◌, subst, arith, slice_get, take_all, true≢false}
-use Rattle.std.proofs.lemmas.Bool.{and_from, eq-eqb}
+use Rattle.std.proofs.lemmas.Bool.{and_from, eq-eqb, or_left, or_right}
 use Rattle.rows.specs.declared.node.NodeSpec.{NodeSpec}
 use Rattle.rows.specs.declared.command.Command.{Command}
 use Rattle.machine_model.specs.declared.entry.Entry.{Entry}
@@ -11,7 +11,6 @@ use Rattle.raft_model.specs.Rafts.{Raft, is_up, is_leader}
 use Rattle.raft_model.specs.Worlds as raft_worlds
 use Rattle.raft_safety.proofs.Places.{get-last}
 use Rattle.raft_progress.specs.Recovery.{AllUp, HasRoom, Settled, CanSettle, everybody}
-use Rattle.raft_progress.proofs.Merged.{or_left, or_right}
 use Rattle.raft_progress.proofs.Leaders.{leader_facts}
 use Rattle.raft_progress.proofs.Never.{never_stuck}
 use Rattle.raft_progress.proofs.Recovering.{can_recover}
