@@ -2,7 +2,8 @@
 //! delivered.
 #![tactic(auto)]
 
-ghost use Rattle.std.specs.Prelude.{ℕ, ◌≤◌, Bool};
+ghost use Rattle.std.specs.Prelude.{ℕ, ◌+◌, ◌≤◌, Bool, length};
+ghost use Rattle.raft_model.specs.Logs.{MAX};
 ghost use Rattle.raft_model.specs.Quorums.{Quorum};
 ghost use Rattle.raft_progress.specs.Recovery.{AllUp, HasRoom, everybody};
 ghost use Rattle.group_model.specs.Worlds.{raft_of};
@@ -24,4 +25,11 @@ pub fn never_stuck()
 pub fn each_group_recovers()
     ensures { EachRun (λ n nodes events past w. 2 ≤ n → HasRoom n everybody (raft_of w)
         → GroupCanRecover n w) }
+{}
+
+/// A run that is two events shorter than the greatest term and index has room, at every server: so
+/// it is long before a group runs out.
+pub fn a_short_run_has_room()
+    ensures { EachRun (λ n nodes events past w. 2 ≤ n → length events + 2 ≤ MAX
+        → (Q : ℕ → Bool) → HasRoom n Q (raft_of w)) }
 {}
