@@ -1,17 +1,16 @@
 -- What a small step changes of a server's term, role and log. What each such change keeps is kept
 -- by each event of a run.
-use Rattle.std.proofs.Common.{◌≡◌, ◌≢◌, ℕ, zero, suc, ◌+◌, ◌-◌, ◌<◌, ◌≤◌, ◌⊎◌, inl, inr, max, min, Bool, true, false, nat_le, Some, None, Ok, List, [], ◌∷◌, ◌++◌, length, replicate, refl, sym, ap, ◌∙◌, subst, arith, slice_get, slice_set}
+use Rattle.std.proofs.Common.{◌≡◌, ℕ, suc, ◌-◌, ◌<◌, ◌≤◌, ◌⊎◌, inl, inr, max, min, Bool, true, nat_le, Some, Ok, List, [], ◌∷◌, ◌++◌, length, replicate, refl, sym, ap, ◌∙◌, subst, arith, slice_get, slice_set}
 use Rattle.std.proofs.lemmas.Bool.Decides.{eqb_tells}
 use Rattle.machine_model.specs.Meaning.{Meaning}
-use Rattle.machine_model.specs.declared.entry.Entry.{Entry}
 use Rattle.raft_model.specs.Quorums.{index_at}
 use Rattle.raft_model.specs.Messages.{Message}
-use Rattle.raft_model.specs.Rafts.{Raft, Mode, Down, Follower, Candidate, Leader, newcomer, is_chosen, installed}
+use Rattle.raft_model.specs.Rafts.{Raft, Candidate, Leader, newcomer, is_chosen}
 use Rattle.raft_model.specs.Worlds.{World, Event, Run, IsEvent, happens, start, more}
 use Rattle.raft_model.proofs.Cases.{bool_cases}
 use Rattle.raft_safety.specs.Inner.SmallSteps.{Small, raises, stands, grants_vote, refuses, counts, wins, extends, follows, takes_append, takes_install, acks, backs, advances, covers, beats_all, KnowsNothing, Path, still, only, after_one, Turns, walks, resets}
 use Rattle.raft_safety.proofs.Places.{get_set-cases, set-length, replicate-get}
-use Rattle.raft_safety.proofs.Election.{Moves, event_moves}
+use Rattle.raft_safety.proofs.Election.{event_moves}
 use Rattle.raft_safety.proofs.Commits.{greatest_from}
 use Rattle.raft_safety.proofs.Limits.{run_bounds}
 use Rattle.raft_progress.proofs.Moves.{index_same, index_other}
@@ -34,58 +33,66 @@ acked : (n : ℕ) (next match : List ℕ) (from at : ℕ) → Lists n next match
     let x = max (index_at match from) at in Lists n (slice_set next from (suc x)) (slice_set match from x) × Closes n next match (slice_set next from (suc x)) (slice_set match from x)
 acked n next match from at g =
     let x = max (index_at match from) at in
-    let its : (j : ℕ) → j < n → j ≡ from → (index_at (slice_set match from x) j ≡ x) × (index_at (slice_set next from (suc x)) j ≡ suc x) × (index_at match j ≤ x) × (index_at match j < index_at next j) = λ j less e.
-        (ap (index_at (slice_set match from x)) e ∙ index_same match from x (omega (arith, e, less, g.match_size)),
-        ap (index_at (slice_set next from (suc x))) e ∙ index_same next from (suc x) (omega (arith, e, less, g.next_size)),
-        omega (arith, ap (index_at match) e), g.gap j less) in
-    (record {
-      next_size = set-length next from (suc x) ∙ g.next_size;
-      match_size = set-length match from x ∙ g.match_size;
-      gap = λ j less. elim (eqb_tells j from) [
-        | inl e ↦ let t = its j less e.1 in omega (arith, t.0, t.1)
-        | inr e ↦ omega (arith, index_other match from x j e.1, index_other next from (suc x) j e.1, g.gap j less)
-      ];
-      probed = λ j less some. elim (eqb_tells j from) [
-        | inl e ↦ let t = its j less e.1 in omega (arith, t.0, t.1)
-        | inr e ↦ omega (arith, index_other match from x j e.1, index_other next from (suc x) j e.1, g.probed j less (omega (arith, some, index_other match from x j e.1)))
-      ];
-    }, record {
-      rises = λ j less. elim (eqb_tells j from) [
-        | inl e ↦ let t = its j less e.1 in omega (arith, t.0, t.2)
-        | inr e ↦ omega (arith, index_other match from x j e.1)
-      ];
-      closes = λ j less. elim (eqb_tells j from) [
-        | inl e ↦ let t = its j less e.1 in omega (arith, t.0, t.1, t.3)
-        | inr e ↦ omega (arith, index_other match from x j e.1, index_other next from (suc x) j e.1)
-      ];
-    })
+    let its : (j : ℕ) → j < n → j ≡ from → (index_at (slice_set match from x) j ≡ x) × (index_at (slice_set next from (suc x)) j ≡ suc x) × (index_at match j ≤ x) × (index_at match j < index_at next j) = λ j less e. (
+      ap (index_at (slice_set match from x)) e ∙ index_same match from x (omega (arith, e, less, g.match_size)),
+      ap (index_at (slice_set next from (suc x))) e ∙ index_same next from (suc x) (omega (arith, e, less, g.next_size)),
+      omega (arith, ap (index_at match) e),
+      g.gap j less,
+    ) in (
+      record {
+        next_size = set-length next from (suc x) ∙ g.next_size;
+        match_size = set-length match from x ∙ g.match_size;
+        gap = λ j less. elim (eqb_tells j from) [
+          | inl e ↦ let t = its j less e.1 in omega (arith, t.0, t.1)
+          | inr e ↦ omega (arith, index_other match from x j e.1, index_other next from (suc x) j e.1, g.gap j less)
+        ];
+        probed = λ j less some. elim (eqb_tells j from) [
+          | inl e ↦ let t = its j less e.1 in omega (arith, t.0, t.1)
+          | inr e ↦ omega (arith, index_other match from x j e.1, index_other next from (suc x) j e.1, g.probed j less (omega (arith, some, index_other match from x j e.1)))
+        ];
+      },
+      record {
+        rises = λ j less. elim (eqb_tells j from) [
+          | inl e ↦ let t = its j less e.1 in omega (arith, t.0, t.2)
+          | inr e ↦ omega (arith, index_other match from x j e.1)
+        ];
+        closes = λ j less. elim (eqb_tells j from) [
+          | inl e ↦ let t = its j less e.1 in omega (arith, t.0, t.1, t.3)
+          | inr e ↦ omega (arith, index_other match from x j e.1, index_other next from (suc x) j e.1)
+        ];
+      },
+    )
 
 -- a refusal
 backed : (n : ℕ) (next match : List ℕ) (from at : ℕ) → Lists n next match →
     let x = max (suc (index_at match from)) (min (index_at next from - 1) (suc at)) in Lists n (slice_set next from x) match × Closes n next match (slice_set next from x) match
 backed n next match from at g =
     let x = max (suc (index_at match from)) (min (index_at next from - 1) (suc at)) in
-    let its : (j : ℕ) → j < n → j ≡ from → (index_at (slice_set next from x) j ≡ x) × (index_at match j < x) × (x ≤ index_at next j) = λ j less e.
-        (ap (index_at (slice_set next from x)) e ∙ index_same next from x (omega (arith, e, less, g.next_size)),
-        omega (arith, ap (index_at match) e), omega (arith, ap (index_at match) e, ap (index_at next) e, g.gap j less)) in
-    (record {
-      next_size = set-length next from x ∙ g.next_size;
-      match_size = g.match_size;
-      gap = λ j less. elim (eqb_tells j from) [
-        | inl e ↦ let t = its j less e.1 in omega (arith, t.0, t.1)
-        | inr e ↦ omega (arith, index_other next from x j e.1, g.gap j less)
-      ];
-      probed = λ j less some. elim (eqb_tells j from) [
-        | inl e ↦ let t = its j less e.1 in omega (arith, t.0, t.1, t.2, g.probed j less some)
-        | inr e ↦ omega (arith, index_other next from x j e.1, g.probed j less some)
-      ];
-    }, record {
-      rises = λ j less. omega arith;
-      closes = λ j less. elim (eqb_tells j from) [
-        | inl e ↦ let t = its j less e.1 in omega (arith, t.0, t.1, t.2)
-        | inr e ↦ omega (arith, index_other next from x j e.1)
-      ];
-    })
+    let its : (j : ℕ) → j < n → j ≡ from → (index_at (slice_set next from x) j ≡ x) × (index_at match j < x) × (x ≤ index_at next j) = λ j less e. (
+      ap (index_at (slice_set next from x)) e ∙ index_same next from x (omega (arith, e, less, g.next_size)),
+      omega (arith, ap (index_at match) e),
+      omega (arith, ap (index_at match) e, ap (index_at next) e, g.gap j less),
+    ) in (
+      record {
+        next_size = set-length next from x ∙ g.next_size;
+        match_size = g.match_size;
+        gap = λ j less. elim (eqb_tells j from) [
+          | inl e ↦ let t = its j less e.1 in omega (arith, t.0, t.1)
+          | inr e ↦ omega (arith, index_other next from x j e.1, g.gap j less)
+        ];
+        probed = λ j less some. elim (eqb_tells j from) [
+          | inl e ↦ let t = its j less e.1 in omega (arith, t.0, t.1, t.2, g.probed j less some)
+          | inr e ↦ omega (arith, index_other next from x j e.1, g.probed j less some)
+        ];
+      },
+      record {
+        rises = λ j less. omega arith;
+        closes = λ j less. elim (eqb_tells j from) [
+          | inl e ↦ let t = its j less e.1 in omega (arith, t.0, t.1, t.2)
+          | inr e ↦ omega (arith, index_other next from x j e.1)
+        ];
+      },
+    )
 
 module _ {S C : Type 0} (m : Meaning S C) (n i : ℕ) where
   pub data Kind (s t : Raft C) : Type 0 where
@@ -173,12 +180,12 @@ module _ {S C : Type 0} (m : Meaning S C) (n : ℕ) where
       elim (get_set-cases w.servers x.who x.new i t (subst (λ l. slice_get l i ≡ Some t) x.servers here)) [
         | inr q ↦ record { server = t; here = q.1; out = []; turn = inl refl }
         | inl q ↦ record {
-            server = x.old;
-            here = ap (slice_get w.servers) q.0 ∙ x.here;
-            out = x.out;
-            turn = inr (subst (λ j. Turns m n j w.sent x.old t x.out) (sym q.0) (subst (λ y. Turns m n x.who w.sent x.old y x.out) q.1
-                (subst (λ k. Turns m k x.who w.sent x.old x.new x.out) size x.path)));
-          }
+          server = x.old;
+          here = ap (slice_get w.servers) q.0 ∙ x.here;
+          out = x.out;
+          turn = inr (subst (λ j. Turns m n j w.sent x.old t x.out) (sym q.0) (subst (λ y. Turns m n x.who w.sent x.old y x.out) q.1
+              (subst (λ k. Turns m k x.who w.sent x.old x.new x.out) size x.path)));
+        }
       ]
 
   -- what a new server has and each change keeps, each server has

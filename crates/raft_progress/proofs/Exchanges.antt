@@ -1,21 +1,19 @@
 -- A leader asks a server that is not ahead of it, and the server answers.
-use Rattle.std.proofs.Common.{◌≡◌, ◌≢◌, ℕ, zero, suc, ◌+◌, ◌-◌, ◌<◌, ◌≤◌, ◌⊎◌, inl, inr, Bool, true, false, Some, None, Ok, List, [], ◌∷◌, ◌++◌, length, refl, sym, ap, ◌∙◌, subst, arith, slice_get, slice_set}
+use Rattle.std.proofs.Common.{◌≡◌, ◌≢◌, ℕ, suc, ◌<◌, ◌≤◌, inl, inr, Bool, true, false, Some, Ok, List, [], ◌∷◌, ◌++◌, length, refl, sym, ap, ◌∙◌, arith, slice_get}
 use Rattle.machine_model.specs.Meaning.{Meaning, LawfulMachine}
 use Rattle.machine_model.specs.declared.entry.Entry.{Entry}
-use Rattle.raft_model.specs.Logs.{term_at}
 use Rattle.raft_model.specs.Quorums.{index_at}
 use Rattle.raft_model.specs.Messages.{Message, Body, AppendReply, to_others}
-use Rattle.raft_model.specs.Rafts.{Raft, RaftTurn, Leader, is_up, is_leader, silent, beat_body, beat_message}
+use Rattle.raft_model.specs.Rafts.{Raft, RaftTurn, is_up, silent, beat_body, beat_message}
 use Rattle.raft_model.specs.Steps.{Arrives, Beat, step}
 use Rattle.raft_model.specs.Worlds.{World, Deliver, Beats, Leads, happens}
 use Rattle.raft_safety.specs.Claims.{Limits}
 use Rattle.raft_safety.proofs.Places.{get-last, get-within}
 use Rattle.raft_progress.specs.Recovery.{Recovery, a_delivery, a_beat}
-use Rattle.raft_progress.specs.Peace.{Peace, leads_here, Answered}
+use Rattle.raft_progress.specs.Peace.{leads_here, Answered}
 use Rattle.raft_progress.proofs.Moves.{get-behind, sent_grows, recovery_sent, get_set-other, to_others_has, Reached, reached_next, reached_size, reached_limits, own_turn, came_turn, turned, turned_here, Members, members_turn}
-use Rattle.raft_progress.proofs.Answering.{answer, Accepts, Refuses, answers, Heard, hears_accept, hears_refuse, beats_now}
-use Rattle.raft_progress.proofs.Changes.{Lists}
-use Rattle.raft_progress.proofs.Leaders.{Facts, leader_facts, leader_next, leader_match, alone}
+use Rattle.raft_progress.proofs.Answering.{answer, answers, Heard, hears_accept, hears_refuse, beats_now}
+use Rattle.raft_progress.proofs.Leaders.{leader_facts, leader_next, leader_match, alone}
 
 module _ {S C : Type 0} (m : Meaning S C) (law : LawfulMachine m) (n : ℕ) (Q : ℕ → Bool) (i : ℕ) (less_n : i < n) (T : ℕ) (w0 : World C) where
   -- up, and not ahead
@@ -89,9 +87,9 @@ module _ {S C : Type 0} (m : Meaning S C) (law : LawfulMachine m) (n : ℕ) (Q :
         let f = leader_facts m n w st.reached i l.server l.next l.match l.here l.mode in
         let g = f.lists in
         let a = answers m n i less_n l.server (omega (arith, limits.covered, limits.commit)) k peer peer_up (omega (arith, peer_low, l.term))
-            (λ same. alone m n w st.reached i k l.server peer l.next l.match l.here l.mode peer_here other same)
-            (index_at l.match k) (index_at l.next k) (g.gap k less) (leader_next m law n w st.reached i l.server l.next l.match l.here l.mode k less other)
-            (leader_match m law n w st.reached i l.server l.next l.match l.here l.mode k peer less other peer_here (omega (arith, peer_low, l.term))) in
+        (λ same. alone m n w st.reached i k l.server peer l.next l.match l.here l.mode peer_here other same)
+        (index_at l.match k) (index_at l.next k) (g.gap k less) (leader_next m law n w st.reached i l.server l.next l.match l.here l.mode k less other)
+        (leader_match m law n w st.reached i l.server l.next l.match l.here l.mode k peer less other peer_here (omega (arith, peer_low, l.term))) in
         elim (a.2) [
           | inl c ↦
               let h = hears_accept m n i l.server l.next l.match l.mode k less c.body c.at c.ack c.within in
@@ -190,7 +188,12 @@ module _ {S C : Type 0} (m : Meaning S C) (law : LawfulMachine m) (n : ℕ) (Q :
         others = others3;
       };
       answered = record {
-        at_beat = w; after_beat = w1; at_request = w1; after_request = w2; at_answer = w2; after_answer = w3;
+        at_beat = w;
+        after_beat = w1;
+        at_request = w1;
+        after_request = w2;
+        at_answer = w2;
+        after_answer = w3;
         to_beat = leads_here st.leads;
         leader = st.leads;
         beat = h1;
