@@ -38,7 +38,7 @@ module _ {S C : Type 0} (m : Meaning S C) (law : LawfulMachine m) (n : ℕ) (two
   Its B T x = Inv m law n Q i less_n member_i since B T x
 
   -- what was sent stays, and terms never fall
-  calm_sent : (x y : World C) (p : ℕ) (z : Message C) → Calm m Q i since x y → slice_get x.sent p ≡ Some z → slice_get y.sent p ≡ Some z
+  pub calm_sent : (x y : World C) (p : ℕ) (z : Message C) → Calm m Q i since x y → slice_get x.sent p ≡ Some z → slice_get y.sent p ≡ Some z
   calm_sent x y p z calm_here h = h
   calm_sent x y p z (calm_on {x = v} e w c is calm g) h =
       let mv = event_moves m v y e is g in
@@ -155,7 +155,7 @@ module _ {S C : Type 0} (m : Meaning S C) (law : LawfulMachine m) (n : ℕ) (two
   was_candidate s t votes term at (elected a is l) = (a, is)
   was_candidate s t votes term at (led next match next2 match2 is at2 o) = absurd (let q : Leader next2 match2 ≡ Candidate votes = sym at2 ∙ at in cc)
 
-  calm_trans : (x y z : World C) → Calm m Q i since x y → Calm m Q i since y z → Calm m Q i since x z
+  pub calm_trans : (x y z : World C) → Calm m Q i since x y → Calm m Q i since y z → Calm m Q i since x z
   calm_trans x y z a calm_here = a
   calm_trans x y z a (calm_on {x = v} e w c is calm g) = calm_on e w (calm_trans x y v a c) is calm g
 
@@ -270,17 +270,17 @@ module _ {S C : Type 0} (m : Meaning S C) (law : LawfulMachine m) (n : ℕ) (two
     top : B ≤ inv.me.term
 
   -- its turn at a timeout
-  record Timed (B : ℕ) (x y : World C) (v : Its B (suc B) x) : Type 0 where
-    turn : RaftTurn C
-    acts : Acts i v.me turn
-    rises : v.me.term ≤ turn.server.term
-    few : turn.server.term ≤ suc v.me.term
-    cases : ((turn.server ≡ v.me) × (is_leader v.me.mode ≡ true)) ⊎ ((turn.server.term ≡ suc v.me.term) × IsStanding turn.server.mode)
-    is : y ≡ turned m n x i turn
-    here : slice_get y.servers i ≡ Some turn.server
-    reached : Reached m n y
+  pub record Timed (B : ℕ) (x y : World C) (v : Its B (suc B) x) : Type 0 where
+    pub turn : RaftTurn C
+    pub acts : Acts i v.me turn
+    pub rises : v.me.term ≤ turn.server.term
+    pub few : turn.server.term ≤ suc v.me.term
+    pub cases : ((turn.server ≡ v.me) × (is_leader v.me.mode ≡ true)) ⊎ ((turn.server.term ≡ suc v.me.term) × IsStanding turn.server.mode)
+    pub is : y ≡ turned m n x i turn
+    pub here : slice_get y.servers i ≡ Some turn.server
+    pub reached : Reached m n y
 
-  times : (B : ℕ) (x y : World C) (v : Its B (suc B) x) → happens m x (TimesOut i) ≡ Ok y → Timed B x y v
+  pub times : (B : ℕ) (x y : World C) (v : Its B (suc B) x) → happens m x (TimesOut i) ≡ Ok y → Timed B x y v
   times B x y v h =
       let k = taken m n x i Timeout y (reached_size m n x v.reached) h in
       let mine : k.server ≡ v.me = same_Some k.server v.me (sym k.here ∙ v.here) in
@@ -293,7 +293,7 @@ module _ {S C : Type 0} (m : Meaning S C) (law : LawfulMachine m) (n : ℕ) (two
       }
 
   -- the invariant behind it
-  timed_inv : (B : ℕ) (x y : World C) (v : Its B (suc B) x) (t : Timed B x y v) (B2 T2 : ℕ) → B ≤ B2 → t.turn.server.term ≤ B2 → ((s : Raft C) → s.term ≤ B → Free i (suc B) s → Free i T2 s) → Its B2 T2 y
+  pub timed_inv : (B : ℕ) (x y : World C) (v : Its B (suc B) x) (t : Timed B x y v) (B2 T2 : ℕ) → B ≤ B2 → t.turn.server.term ≤ B2 → ((s : Raft C) → s.term ≤ B → Free i (suc B) s → Free i T2 s) → Its B2 T2 y
   timed_inv B x y v t B2 T2 le top freeing = subst (λ w. Its B2 T2 w) (sym t.is)
       (inv_acts m law n Q i less_n member_i since B (suc B) B2 T2 x v t.turn t.acts le top freeing (subst (λ w. Reached m n w) t.is t.reached))
 
@@ -367,7 +367,7 @@ module _ {S C : Type 0} (m : Meaning S C) (law : LawfulMachine m) (n : ℕ) (eve
   size = reached_size m n w from
 
   -- at first
-  begins : (B : ℕ) → ((j : ℕ) (s : Raft C) → j < n → Q j ≡ true → slice_get w.servers j ≡ Some s → s.term ≤ B) → Inv m law n Q i less_n member_i (length w.sent) B (suc B) w
+  pub begins : (B : ℕ) → ((j : ℕ) (s : Raft C) → j < n → Q j ≡ true → slice_get w.servers j ≡ Some s → s.term ≤ B) → Inv m law n Q i less_n member_i (length w.sent) B (suc B) w
   begins B low =
       let me = get-some w.servers i (omega (arith, less_n, size)) in
       record {
@@ -382,6 +382,29 @@ module _ {S C : Type 0} (m : Meaning S C) (law : LawfulMachine m) (n : ℕ) (eve
   -- what it comes to
   commits : (T : ℕ) (v : World C) → Reached m n v → Leads v i T → CommitsAll m n Q i T v
   commits T v r l = record { leads = l; commits = λ rounds u rs many. leader_commits m law n r.events r.past v r.run two Q quorum i T less_n l rounds u rs many }
+
+  -- a member in the greatest term
+  pub record Highest : Type 0 where
+    pub who : ℕ
+    pub below : who < n
+    pub member : Q who ≡ true
+    pub server : Raft C
+    pub at : slice_get w.servers who ≡ Some server
+    pub low : (j : ℕ) (s : Raft C) → j < n → Q j ≡ true → slice_get w.servers j ≡ Some s → s.term ≤ server.term
+
+  pub highest : Highest
+  highest = elim (pick Q (λ a b. (server_at w a).term ≤ (server_at w b).term) (λ j. omega arith) (λ a b c x y. omega (arith, x, y)) (λ a b. terms_total (server_at w a).term (server_at w b).term) n) [
+    | inl none ↦ absurd (none i less_n member_i)
+    | inr top ↦
+        let at : (j : ℕ) → j < n → slice_get w.servers j ≡ Some (server_at w j) = λ j less. server_is w j (omega (arith, less, size)) in
+        record {
+          who = top.top; below = top.below; member = top.member; server = server_at w top.top; at = at top.top top.below;
+          low = λ j s less q there. omega (arith, top.all j less q, ap (λ (z : Raft C). z.term) (same_Some s (server_at w j) (sym there ∙ at j less)));
+        }
+  ]
+    where
+      terms_total : (a b : ℕ) → (a ≤ b) ⊎ (b ≤ a)
+      terms_total a b = elim (leb_tells a b) [ inl e ↦ inl e.1 | inr e ↦ inr (omega (arith, e.1)) ]
 
   -- it is stable there
   stable : (T : ℕ) (v : World C) → Leader_in m law n two Q quorum i less_n member_i (length w.sent) T v → StableLeader m n Q i (length w.sent) v
@@ -401,15 +424,8 @@ module _ {S C : Type 0} (m : Meaning S C) (law : LawfulMachine m) (n : ℕ) (eve
 
   -- from anywhere
   pub two_goes : (v : World C) → Go m n Q i (length w.sent) w v → (u : World C) → Go m n Q i (length w.sent) v u → StableLeader m n Q i (length w.sent) u
-  two_goes v g u h = elim (pick Q (λ a b. (server_at w a).term ≤ (server_at w b).term) (λ j. omega arith) (λ a b c x y. omega (arith, x, y)) (λ a b. terms_total (server_at w a).term (server_at w b).term) n) [
-    | inl none ↦ absurd (none i less_n member_i)
-    | inr top ↦
-        let at : (j : ℕ) → j < n → slice_get w.servers j ≡ Some (server_at w j) = λ j less. server_is w j (omega (arith, less, size)) in
-        let inv = begins (server_at w top.top).term (λ j s less q there. omega (arith, top.all j less q, ap (λ (z : Raft C). z.term) (same_Some s (server_at w j) (sym there ∙ at j less)))) in
-        let first = first_go m law n two Q quorum i less_n member_i (length w.sent) (server_at w top.top).term w v inv top.top top.below top.member (server_at w top.top) (at top.top top.below) (omega arith) g in
-        let l = last_go m law n two Q quorum i less_n member_i (length w.sent) first.0 v u first.1 h in
-        stable l.0 u l.1
-  ]
-    where
-      terms_total : (a b : ℕ) → (a ≤ b) ⊎ (b ≤ a)
-      terms_total a b = elim (leb_tells a b) [ inl e ↦ inl e.1 | inr e ↦ inr (omega (arith, e.1)) ]
+  two_goes v g u h =
+      let z = highest in
+      let first = first_go m law n two Q quorum i less_n member_i (length w.sent) z.server.term w v (begins z.server.term z.low) z.who z.below z.member z.server z.at (omega arith) g in
+      let l = last_go m law n two Q quorum i less_n member_i (length w.sent) first.0 v u first.1 h in
+      stable l.0 u l.1
