@@ -1,25 +1,24 @@
 -- There are such goes and such rounds: the premises of the laws can be met.
-use Rattle.std.proofs.Common.{◌≡◌, ◌≢◌, ℕ, zero, suc, ◌+◌, ◌<◌, ◌≤◌, ◌⊎◌, inl, inr, max, Bool, true, false, Some, Ok, List, [], ◌∷◌, ◌++◌, length, refl, sym, ap, ◌∙◌, subst, arith, slice_get, slice_set, true≢false}
+use Rattle.std.proofs.Common.{◌≡◌, ◌≢◌, ℕ, zero, suc, ◌+◌, ◌<◌, ◌≤◌, inl, inr, max, Bool, true, false, Some, Ok, List, length, refl, sym, ap, ◌∙◌, subst, arith, slice_get, true≢false}
 use Rattle.std.proofs.lemmas.Bool.Decides.{eqb_tells, leb_tells}
-use Rattle.std.proofs.lemmas.List.{length-append}
 use Rattle.std.proofs.lemmas.Option.{same_Some}
 use Rattle.machine_model.specs.Meaning.{Meaning, LawfulMachine}
-use Rattle.raft_model.specs.Logs.{MAX, last_term}
+use Rattle.raft_model.specs.Logs.{last_term}
 use Rattle.raft_model.specs.Quorums.{Quorum}
-use Rattle.raft_model.specs.Messages.{Message, Body, VoteRequest, VoteReply, to_others}
-use Rattle.raft_model.specs.Rafts.{Raft, RaftTurn, is_up, is_leader, met, stood, grants, vote_request_to}
-use Rattle.raft_model.specs.Steps.{Timeout, Arrives, receives}
+use Rattle.raft_model.specs.Messages.{Message, VoteRequest, VoteReply, to_others}
+use Rattle.raft_model.specs.Rafts.{Raft, RaftTurn, is_leader, met, stood, grants, vote_request_to}
+use Rattle.raft_model.specs.Steps.{Timeout, receives}
 use Rattle.raft_model.specs.Worlds.{World, Event, Run, Deliver, TimesOut, happens, Leads}
 use Rattle.raft_model.proofs.Cases.{bool_cases}
 use Rattle.raft_safety.proofs.Places.{get-some, get-last, get-within}
 use Rattle.raft_progress.specs.Recovery.{AllUp, HasRoom, no_event}
 use Rattle.raft_progress.specs.Peace.{Rounds}
 use Rattle.raft_progress.specs.Calm.{IsCalm, Calm, calm_here, calm_on, Asked, Go, HasBestLog, NobodyAhead}
-use Rattle.raft_progress.proofs.Moves.{get-behind, to_others_has, Reached, reached_next, reached_size, own_turn, came_turn, turned, turned_here, step_arrives}
+use Rattle.raft_progress.proofs.Moves.{get-behind, to_others_has, Reached, reached_size, own_turn, came_turn, turned, turned_here, step_arrives}
 use Rattle.raft_progress.proofs.Asking.{stands_now}
 use Rattle.raft_progress.proofs.Playing.{plays}
-use Rattle.raft_progress.proofs.CalmRuns.{Inv, Member, Next, next_event}
-use Rattle.raft_progress.proofs.Goes.{calm_sent, calm_trans, Timed, times, timed_inv, begins, Highest, highest}
+use Rattle.raft_progress.proofs.CalmRuns.{Inv, Next, next_event}
+use Rattle.raft_progress.proofs.Goes.{calm_sent, calm_trans, times, timed_inv, begins, highest}
 
 module _ {S C : Type 0} (m : Meaning S C) (law : LawfulMachine m) (n : ℕ) (two : 2 ≤ n) (Q : ℕ → Bool) (quorum : Quorum n Q) (i : ℕ) (less_n : i < n) (member_i : Q i ≡ true) (since B : ℕ) (T : ℕ) (L R : ℕ) (y : World C) where
   abbrev req : ℕ → Message C
@@ -103,18 +102,44 @@ module _ {S C : Type 0} (m : Meaning S C) (law : LawfulMachine m) (n : ℕ) (two
           calm = calm_trans m law n two Q quorum i less_n member_i since y x x2 g.calm both;
           asked = λ j lo hi p apart. elim (leb_tells (suc j) k) [
             | inl e ↦ let a = g.asked j e.1 hi p apart in record {
-                at_request = a.at_request; after_request = a.after_request; at_answer = a.at_answer; after_answer = a.after_answer;
-                to_request = a.to_request; request = a.request; request_since = a.request_since; index = a.index; its_last = a.its_last; request_is = a.request_is;
-                request_delivered = a.request_delivered; to_answer = a.to_answer; answer = a.answer; answer_new = a.answer_new; answer_sent = a.answer_sent; answer_delivered = a.answer_delivered;
-                to_end = calm_trans m law n two Q quorum i less_n member_i since a.after_answer x x2 a.to_end both;
-              }
+              at_request = a.at_request;
+              after_request = a.after_request;
+              at_answer = a.at_answer;
+              after_answer = a.after_answer;
+              to_request = a.to_request;
+              request = a.request;
+              request_since = a.request_since;
+              index = a.index;
+              its_last = a.its_last;
+              request_is = a.request_is;
+              request_delivered = a.request_delivered;
+              to_answer = a.to_answer;
+              answer = a.answer;
+              answer_new = a.answer_new;
+              answer_sent = a.answer_sent;
+              answer_delivered = a.answer_delivered;
+              to_end = calm_trans m law n two Q quorum i less_n member_i since a.after_answer x x2 a.to_end both;
+            }
             | inr e ↦
                 let same : k ≡ j = omega (arith, lo, e.1) in
                 subst (λ z. Asked m Q i since T z y x2) same (record {
-                  at_request = x; after_request = x1; at_answer = x1; after_answer = x2;
-                  to_request = g.calm; request = place.0; request_since = place.2; index = L; its_last = R; request_is = place.1;
-                  request_delivered = h1; to_answer = calm_here; answer = length x.sent; answer_new = omega arith;
-                  answer_sent = get-within x1.sent (length x.sent) reply at_reply; answer_delivered = h2; to_end = calm_here;
+                  at_request = x;
+                  after_request = x1;
+                  at_answer = x1;
+                  after_answer = x2;
+                  to_request = g.calm;
+                  request = place.0;
+                  request_since = place.2;
+                  index = L;
+                  its_last = R;
+                  request_is = place.1;
+                  request_delivered = h1;
+                  to_answer = calm_here;
+                  answer = length x.sent;
+                  answer_new = omega arith;
+                  answer_sent = get-within x1.sent (length x.sent) reply at_reply;
+                  answer_delivered = h2;
+                  to_end = calm_here;
                 })
           ];
           requests = λ j hi apart. let r = g.requests j hi apart in (r.0, calm_sent m law n two Q quorum i less_n member_i since x x2 r.0 (req j) both r.1, r.2);
@@ -132,7 +157,9 @@ module _ {S C : Type 0} (m : Meaning S C) (law : LawfulMachine m) (n : ℕ) (two
     where
       passes : (Q k ≡ true → k ≢ i → ⊥) → Going (suc k) x
       passes no_one = record {
-        inv = g.inv; calm = g.calm; requests = g.requests;
+        inv = g.inv;
+        calm = g.calm;
+        requests = g.requests;
         asked = λ j lo hi q other. elim (leb_tells (suc j) k) [
           | inl e ↦ g.asked j e.1 hi q other
           | inr e ↦ let same : j ≡ k = omega (arith, lo, e.1) in absurd (no_one (ap Q (sym same) ∙ q) (λ z. other (same ∙ z)))
@@ -163,25 +190,36 @@ module _ {S C : Type 0} (m : Meaning S C) (law : LawfulMachine m) (n : ℕ) (eve
       let B = max b.server.term t.turn.server.term in
       let inv2 = timed_inv m law n two Q quorum i less_n member_i (length w.sent) b.server.term w y inv t (max b.server.term t.turn.server.term) (suc (max b.server.term t.turn.server.term)) (omega arith) (omega arith) (λ s low f. inl (omega (arith, low))) in
       let all = goes_all m law n two Q quorum i less_n member_i (length w.sent) (max b.server.term t.turn.server.term) (suc me.term) (length me.log) (last_term me.log) y n 0 y (omega arith) (record {
-        inv = inv2; calm = calm_here;
+        inv = inv2;
+        calm = calm_here;
         asked = λ j lo hi q other. absurd (omega (arith, lo));
         requests = λ j lo other.
             let a = to_others_has i (vote_request_to i c) n j lo other in
             get-behind w.sent out a.0 (vote_request_to i c j) a.1;
       }) in
-      let g = all.1 in
-      (all.0, record {
-        at_timeout = w; after_timeout = y; to_timeout = calm_here; timeout = h; candidate = c;
-        here = turned_here m n w i first me here;
-        asked = λ k less q other. g.asked k less less q other;
-        to_end = g.calm;
-      })
+      let g = all.1 in (
+        all.0,
+        record {
+          at_timeout = w;
+          after_timeout = y;
+          to_timeout = calm_here;
+          timeout = h;
+          candidate = c;
+          here = turned_here m n w i first me here;
+          asked = λ k less q other. g.asked k less less q other;
+          to_end = g.calm;
+        },
+      )
 
   -- rounds
   pub rounds_exist : (T : ℕ) → Leads w i T → NobodyAhead n Q i w → (rounds : ℕ) → (v : World C) × Rounds m n Q i T w rounds v
   rounds_exist T l level rounds =
       let x = plays m law n Q i less_n T w l.server.log l.server.covered 0 rounds 0 w (record {
-        reached = from; recovery = no_event; leads = l; has = refl; base = refl;
+        reached = from;
+        recovery = no_event;
+        leads = l;
+        has = refl;
+        base = refl;
         others = λ j less q other.
             let s = get-some w.servers j (omega (arith, less, reached_size m n w from)) in
             (s.0, s.1, (up j s.0 less q s.1, omega (arith, level j s.0 l.server less q s.1 l.here, l.term)));
