@@ -1,19 +1,20 @@
 -- What stays so in a calm part of a run.
 use Rattle.std.proofs.Common.{◌≡◌, ◌≢◌, ℕ, ◌<◌, ◌≤◌, ◌⊎◌, inl, inr, Bool, true, false, Option, Some, None, Result, Ok, Err, List, [], ◌∷◌, length, refl, sym, ap, ◌∙◌, subst, arith, slice_get, true≢false}
+use Rattle.std.proofs.lemmas.Bool.Decides.{eqb_tells}
 use Rattle.std.proofs.lemmas.Option.{same_Some}
 use Rattle.rows.specs.declared.refusal.Refusal.{Refusal}
 use Rattle.machine_model.specs.Meaning.{Meaning, LawfulMachine}
 use Rattle.machine_model.specs.declared.entry.Entry.{Entry}
 use Rattle.raft_model.specs.Logs.{last_term}
-use Rattle.raft_model.specs.Messages.{Message, Body, to_others}
-use Rattle.raft_model.specs.Rafts.{Raft, RaftTurn, is_up, met, vote_request_to, stood, beat_message, beats}
+use Rattle.raft_model.specs.Messages.{Message, Body, VoteRequest, to_others}
+use Rattle.raft_model.specs.Rafts.{Raft, RaftTurn, is_up, met, vote_request_to, stood, beat_message, beats, silent, compacted}
 use Rattle.raft_model.specs.Steps.{Input, Arrives, Timeout, Beat, Propose, Compact, Crash, Restart, receives, step}
 use Rattle.raft_model.specs.Worlds.{World, Event, Deliver, TimesOut, Beats, Proposes, Compacts, Crashes, Restarts, IsEvent, happens, takes, delivers, input_to, after_turn}
 use Rattle.raft_model.proofs.Cases.{bool_cases, same_ok}
 use Rattle.raft_safety.specs.Claims.{Limits, IsAmongMembers}
 use Rattle.raft_safety.specs.Inner.SmallSteps.{Small, raises, stands, grants_vote, refuses, counts, wins, extends, follows, takes_append, takes_install, acks, backs, advances, covers, beats_all, Path, still, only, after_one, Turns, walks, resets}
 use Rattle.raft_safety.proofs.Paths.{CameIn, step_path}
-use Rattle.raft_safety.proofs.Places.{get_set-cases, get-split, get-one, to_others_is}
+use Rattle.raft_safety.proofs.Places.{get-within, get_set-cases, get-split, get-one, to_others_is}
 use Rattle.raft_safety.proofs.Limits.{Bounds, run_bounds}
 use Rattle.raft_progress.specs.Campaign.{IsStanding, Campaign, stands_here, stands_on}
 use Rattle.raft_progress.specs.Calm.{IsCalm, Calm, calm_here, calm_on}
@@ -276,6 +277,21 @@ module _ {S C : Type 0} (m : Meaning S C) (law : LawfulMachine m) (n : ℕ) (Q :
               subst (λ t. Acts i v.me t × (t.server.term ≤ B)) e (a.0, omega (arith, a.1, low.low, g.term))) r
         ]
 
+    -- a compaction of another member
+    next_compact : (j : ℕ) (y : World C) (k : Taken m n x j Compact y) → j < length x.servers → Q j ≡ true → j ≢ i → Reached m n y → Next B T x y v
+    unfolding inv_heeds Carries
+    next_compact j y k within q other r =
+        let less : j < n = omega (arith, within, reached_size m n x v.reached) in
+        let old = v.each j k.server less q k.here in
+        let is : silent (compacted k.server) ≡ k.turn = same_ok _ _ (rw old.up at k.step_is) in
+        let h : Heeds j i k.server 0 (VoteRequest 0 0) k.turn = subst (λ t. Heeds j i k.server 0 (VoteRequest 0 0) t) is (record {
+          up = old.up; term_is = omega arith; log = λ L e c. e; says = inl refl; free = λ U le f. f;
+        }) in
+        subst (λ z. Next B T x z v) (sym k.is) (record {
+          inv = inv_heeds B T x v j 0 (VoteRequest 0 0) k.server k.turn less q other k.here (omega arith) (omega arith) tt h (subst (λ z. Reached m n z) k.is r);
+          stands = λ same role. role;
+        })
+
     pub next_event : (fits : B ≤ T) (e : Event C) (y : World C) → IsEvent m e → IsCalm Q i since x e → happens m x e ≡ Ok y → Next B T x y v
     next_event fits (Deliver place) y is calm h = next_deliver fits place y calm h
     next_event fits (TimesOut j) y is calm h = next_outside j Timeout y (taken m n x j Timeout y (reached_size m n x v.reached) h) tt calm (reached_next m n x (TimesOut j) y v.reached tt h)
@@ -297,9 +313,12 @@ module _ {S C : Type 0} (m : Meaning S C) (law : LawfulMachine m) (n : ℕ) (Q :
         let r = reached_next m n x (Compacts j) y v.reached tt h in
         elim (bool_cases (Q j)) [
           | inr out ↦ next_outside j Compact y k tt out r
-          | inl q ↦ next_acts Compact y (subst (λ z. Taken m n x z Compact y) (calm q) k) (λ turn is.
-              let low = mine in
-              subst (λ t. Acts i v.me t × (t.server.term ≤ B)) (same_ok _ _ (rw low.up at is)) (acts_compact m n i v.me low.up limits, low.low)) r
+          | inl q ↦ elim (eqb_tells j i) [
+            | inl e ↦ next_acts Compact y (subst (λ z. Taken m n x z Compact y) e.1 k) (λ turn is.
+                let low = mine in
+                subst (λ t. Acts i v.me t × (t.server.term ≤ B)) (same_ok _ _ (rw low.up at is)) (acts_compact m n i v.me low.up limits, low.low)) r
+            | inr e ↦ next_compact j y k (get-within x.servers j k.server k.here) q e.1 r
+          ]
         ]
     next_event fits (Proposes j command) y is calm h =
         let k = taken m n x j (Propose command) y (reached_size m n x v.reached) h in
