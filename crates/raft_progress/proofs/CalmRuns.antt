@@ -285,7 +285,11 @@ module _ {S C : Type 0} (m : Meaning S C) (law : LawfulMachine m) (n : ℕ) (Q :
         let old = v.each j k.server less q k.here in
         let is : silent (compacted k.server) ≡ k.turn = same_ok _ _ (rw old.up at k.step_is) in
         let h : Heeds j i k.server 0 (VoteRequest 0 0) k.turn = subst (λ t. Heeds j i k.server 0 (VoteRequest 0 0) t) is (record {
-          up = old.up; term_is = omega arith; log = λ L e c. e; says = inl refl; free = λ U le f. f;
+          up = old.up;
+          term_is = omega arith;
+          log = λ L e c. e;
+          says = inl refl;
+          free = λ U le f. f;
         }) in
         subst (λ z. Next B T x z v) (sym k.is) (record {
           inv = inv_heeds B T x v j 0 (VoteRequest 0 0) k.server k.turn less q other k.here (omega arith) (omega arith) tt h (subst (λ z. Reached m n z) k.is r);
