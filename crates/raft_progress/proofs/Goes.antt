@@ -33,7 +33,7 @@ use Rattle.raft_progress.proofs.CalmActs.{Acts, acts_reply, acts_timeout}
 use Rattle.raft_progress.proofs.CalmRuns.{event_term, Taken, taken, delivered, Member, Inv, inv_acts, Next, next_event, Came, calm_on_inv}
 
 module _ {S C : Type 0} (m : Meaning S C) (law : LawfulMachine m) (n : ℕ) (two : 2 ≤ n) (Q : ℕ → Bool) (quorum : Quorum n Q) (i : ℕ) (less_n : i < n) (member_i : Q i ≡ true) (since : ℕ) where
-  abbrev Its : ℕ → ℕ → World C → Type 0
+  abbrev pub Its : ℕ → ℕ → World C → Type 0
   Its B T x = Inv m law n Q i less_n member_i since B T x
 
   -- what was sent stays, and terms never fall
@@ -134,10 +134,10 @@ module _ {S C : Type 0} (m : Meaning S C) (law : LawfulMachine m) (n : ℕ) (two
       (rq.index_is ∙ ap length same, rq.last_is ∙ ap last_term same)
 
   -- it stands in the greatest term
-  record Top_in (T : ℕ) (x : World C) : Type 0 where
-    inv : Its T T x
-    term : inv.me.term ≡ T
-    role : IsStanding inv.me.mode
+  pub record Top_in (T : ℕ) (x : World C) : Type 0 where
+    pub inv : Its T T x
+    pub term : inv.me.term ≡ T
+    pub role : IsStanding inv.me.mode
 
   -- also after an event
   top_next : (T : ℕ) (y z : World C) (t : Top_in T y) (inv : Its T T y) (nx : Next m law n Q i less_n member_i since T T y z inv) (e : Event C) → IsEvent m e → happens m y e ≡ Ok z → Top_in T z
@@ -163,7 +163,7 @@ module _ {S C : Type 0} (m : Meaning S C) (law : LawfulMachine m) (n : ℕ) (two
 
   module _ (T : ℕ) (x : World C) (top : Top_in T x) where
     -- later in the calm part
-    top_calm : (y : World C) → Calm m Q i since x y → Top_in T y × Campaign m i T x y
+    pub top_calm : (y : World C) → Calm m Q i since x y → Top_in T y × Campaign m i T x y
     top_calm y c =
         let a = calm_on_inv m law n Q i less_n member_i since T T (omega arith) x y top.inv c in
         let w = a.campaign top.term top.role in
@@ -176,10 +176,10 @@ module _ {S C : Type 0} (m : Meaning S C) (law : LawfulMachine m) (n : ℕ) (two
         let k = campaign_on m law n i T x y top.inv.reached ((top_calm y c).1) in
         subst (λ z. Since n top.inv.me z) (same_Some k.stands.server t (sym k.stands.here ∙ there)) (k.since (record { server = top.inv.me; here = top.inv.here; term = top.term; role = top.role }))
 
-  -- server k grants its vote to who is a candidate to the end
-  grants_it : (T : ℕ) (x v : World C) (top : Top_in T x) (me : Raft C) (votes : List Bool) → slice_get v.servers i ≡ Some me → me.term ≡ T → me.mode ≡ Candidate votes →
-      (k : ℕ) → k < n → Q k ≡ true → k ≢ i → Asked m Q i since T k x v → Granted m i T k x v
-  grants_it T x v top me votes there term mode k less q other g =
+  -- server k grants its vote, if its log is no newer
+  pub grants_from : (T : ℕ) (x v : World C) (top : Top_in T x) (k : ℕ) (less : k < n) (q : Q k ≡ true) (other : k ≢ i) (g : Asked m Q i since T k x v) →
+      ((s : Raft C) → slice_get g.at_request.servers k ≡ Some s → is_up_to_date s.log g.index g.its_last ≡ true) → Granted m i T k x v
+  grants_from T x v top k less q other g no_newer =
       let fits : T ≤ T = omega arith in
       let a1 = top_calm T x top g.at_request g.to_request in
       let t1 = a1.0 in
@@ -192,35 +192,33 @@ module _ {S C : Type 0} (m : Meaning S C) (law : LawfulMachine m) (n : ℕ) (two
       let t4 = top_next T g.at_answer g.after_answer a3.0 c2i.inv nx2 (Deliver g.answer) tt g.answer_delivered in
       let a5 = top_calm T g.after_answer t4 v g.to_end in
       let voter = k1 T T fits x v top.inv T k less q other g in
-      let rest : Calm m Q i since g.at_request v = calm_trans g.at_request g.after_answer v
-      (calm_on (Deliver g.answer) g.after_answer (calm_trans g.at_request g.after_request g.at_answer (calm_on (Deliver g.request) g.after_request calm_here tt (calm1 T T fits x v top.inv T k less q other g) g.request_delivered) g.to_answer)
-      tt (calm2 T T fits x v top.inv T k less q other g) g.answer_delivered) g.to_end in
-      let was = was_candidate t1.inv.me me votes (term ∙ sym t1.term) mode (since_then T g.at_request t1 v rest me there) in
-      let ends = request_end g.at_request t1.inv.reached t1.inv.me was.0 k g.index g.its_last g.request t1.inv.here was.1
-      (subst (λ u. slice_get g.at_request.sent g.request ≡ Some (record { from = i; to = k; term = u; body = VoteRequest g.index g.its_last })) (sym t1.term) g.request_is) in
-      let l = t1.inv.each k voter.server less q voter.here in
       record {
-        at_request = g.at_request;
-        after_request = g.after_request;
-        at_answer = g.at_answer;
-        after_answer = g.after_answer;
+        at_request = g.at_request; after_request = g.after_request; at_answer = g.at_answer; after_answer = g.after_answer;
         to_request = a1.1;
-        request = g.request;
-        index = g.index;
-        its_last = g.its_last;
-        request_is = g.request_is;
-        voter = voter.server;
-        voter_here = voter.here;
+        request = g.request; index = g.index; its_last = g.its_last; request_is = g.request_is;
+        voter = voter.server; voter_here = voter.here;
         free = t1.inv.free k voter.server less q other voter.here;
-        no_newer = subst (λ u. is_up_to_date voter.server.log u g.its_last ≡ true) (sym ends.0) (subst (λ u. is_up_to_date voter.server.log (length t1.inv.me.log) u ≡ true) (sym ends.1) (no_older voter.server.log t1.inv.me.log l.ends));
+        no_newer = no_newer voter.server voter.here;
         request_delivered = g.request_delivered;
         to_answer = a3.1;
-        answer = g.answer;
-        answer_new = g.answer_new;
-        answer_sent = g.answer_sent;
-        answer_delivered = g.answer_delivered;
+        answer = g.answer; answer_new = g.answer_new; answer_sent = g.answer_sent; answer_delivered = g.answer_delivered;
         to_end = a5.1;
       }
+
+  -- as to who is a candidate to the end
+  grants_it : (T : ℕ) (x v : World C) (top : Top_in T x) (me : Raft C) (votes : List Bool) → slice_get v.servers i ≡ Some me → me.term ≡ T → me.mode ≡ Candidate votes →
+      (k : ℕ) → k < n → Q k ≡ true → k ≢ i → Asked m Q i since T k x v → Granted m i T k x v
+  grants_it T x v top me votes there term mode k less q other g = grants_from T x v top k less q other g (λ s here.
+      let a1 = top_calm T x top g.at_request g.to_request in
+      let t1 = a1.0 in
+      let rest : Calm m Q i since g.at_request v = calm_trans g.at_request g.after_answer v
+          (calm_on (Deliver g.answer) g.after_answer (calm_trans g.at_request g.after_request g.at_answer (calm_on (Deliver g.request) g.after_request calm_here tt (calm1 T T (omega arith) x v top.inv T k less q other g) g.request_delivered) g.to_answer)
+          tt (calm2 T T (omega arith) x v top.inv T k less q other g) g.answer_delivered) g.to_end in
+      let was = was_candidate t1.inv.me me votes (term ∙ sym t1.term) mode (since_then T g.at_request t1 v rest me there) in
+      let ends = request_end g.at_request t1.inv.reached t1.inv.me was.0 k g.index g.its_last g.request t1.inv.here was.1
+          (subst (λ u. slice_get g.at_request.sent g.request ≡ Some (record { from = i; to = k; term = u; body = VoteRequest g.index g.its_last })) (sym t1.term) g.request_is) in
+      let l = t1.inv.each k s less q here in
+      subst (λ u. is_up_to_date s.log u g.its_last ≡ true) (sym ends.0) (subst (λ u. is_up_to_date s.log (length t1.inv.me.log) u ≡ true) (sym ends.1) (no_older s.log t1.inv.me.log l.ends)))
 
   -- so it leads in the end
   top_leads : (T : ℕ) (x v : World C) → Top_in T x → Calm m Q i since x v → ((k : ℕ) → k < n → Q k ≡ true → k ≢ i → Asked m Q i since T k x v) → Leads v i T
