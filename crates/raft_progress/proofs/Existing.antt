@@ -111,46 +111,56 @@ module _ {S C : Type 0} (m : Meaning S C) (law : LawfulMachine m) (n : ℕ) (two
           inv = n2.inv;
           calm = calm_trans m law n two Q quorum i less_n member_i since y x x2 g.calm both;
           asked = λ j lo hi p apart. elim (leb_tells (suc j) k) [
-            | inl e ↦ let f = g.asked j e.1 hi p apart in let a = f.asked in record { index = f.index; its_last = f.its_last; same = f.same; asked = record {
-              at_request = a.at_request;
-              after_request = a.after_request;
-              at_answer = a.at_answer;
-              after_answer = a.after_answer;
-              to_request = a.to_request;
-              request = a.request;
-              request_since = a.request_since;
-              index = a.index;
-              its_last = a.its_last;
-              request_is = a.request_is;
-              request_delivered = a.request_delivered;
-              to_answer = a.to_answer;
-              answer = a.answer;
-              answer_new = a.answer_new;
-              answer_sent = a.answer_sent;
-              answer_delivered = a.answer_delivered;
-              to_end = calm_trans m law n two Q quorum i less_n member_i since a.after_answer x x2 a.to_end both;
-            }; }
+            | inl e ↦ let f = g.asked j e.1 hi p apart in let a = f.asked in record {
+              index = f.index;
+              its_last = f.its_last;
+              same = f.same;
+              asked = record {
+                at_request = a.at_request;
+                after_request = a.after_request;
+                at_answer = a.at_answer;
+                after_answer = a.after_answer;
+                to_request = a.to_request;
+                request = a.request;
+                request_since = a.request_since;
+                index = a.index;
+                its_last = a.its_last;
+                request_is = a.request_is;
+                request_delivered = a.request_delivered;
+                to_answer = a.to_answer;
+                answer = a.answer;
+                answer_new = a.answer_new;
+                answer_sent = a.answer_sent;
+                answer_delivered = a.answer_delivered;
+                to_end = calm_trans m law n two Q quorum i less_n member_i since a.after_answer x x2 a.to_end both;
+              };
+            }
             | inr e ↦
                 let same : k ≡ j = omega (arith, lo, e.1) in
-                subst (λ z. Fresh z x2) same (record { index = refl; its_last = refl; same = g.fresh k (omega arith) other; asked = record {
-                  at_request = x;
-                  after_request = x1;
-                  at_answer = x1;
-                  after_answer = x2;
-                  to_request = g.calm;
-                  request = place.0;
-                  request_since = place.2;
-                  index = L;
-                  its_last = R;
-                  request_is = place.1;
-                  request_delivered = h1;
-                  to_answer = calm_here;
-                  answer = length x.sent;
-                  answer_new = omega arith;
-                  answer_sent = get-within x1.sent (length x.sent) reply at_reply;
-                  answer_delivered = h2;
-                  to_end = calm_here;
-                }; })
+                subst (λ z. Fresh z x2) same (record {
+                  index = refl;
+                  its_last = refl;
+                  same = g.fresh k (omega arith) other;
+                  asked = record {
+                    at_request = x;
+                    after_request = x1;
+                    at_answer = x1;
+                    after_answer = x2;
+                    to_request = g.calm;
+                    request = place.0;
+                    request_since = place.2;
+                    index = L;
+                    its_last = R;
+                    request_is = place.1;
+                    request_delivered = h1;
+                    to_answer = calm_here;
+                    answer = length x.sent;
+                    answer_new = omega arith;
+                    answer_sent = get-within x1.sent (length x.sent) reply at_reply;
+                    answer_delivered = h2;
+                    to_end = calm_here;
+                  };
+                })
           ];
           fresh = λ j lo apart. get_set-other x1.servers i turn2.server j apart ∙ (get_set-other x.servers k turn.server j (λ e. omega (arith, lo, e)) ∙ g.fresh j (omega (arith, lo)) apart);
           requests = λ j hi apart. let r = g.requests j hi apart in (r.0, calm_sent m law n two Q quorum i less_n member_i since x x2 r.0 (req j) both r.1, r.2);
@@ -168,7 +178,8 @@ module _ {S C : Type 0} (m : Meaning S C) (law : LawfulMachine m) (n : ℕ) (two
     where
       passes : (Q k ≡ true → k ≢ i → ⊥) → Going (suc k) x
       passes no_one = record {
-        inv = g.inv; fresh = λ j lo apart. g.fresh j (omega (arith, lo)) apart;
+        inv = g.inv;
+        fresh = λ j lo apart. g.fresh j (omega (arith, lo)) apart;
         calm = g.calm;
         requests = g.requests;
         asked = λ j lo hi q other. elim (leb_tells (suc j) k) [
@@ -201,7 +212,8 @@ module _ {S C : Type 0} (m : Meaning S C) (law : LawfulMachine m) (n : ℕ) (eve
       let B = max b.server.term t.turn.server.term in
       let inv2 = timed_inv m law n two Q quorum i less_n member_i (length w.sent) b.server.term w y inv t (max b.server.term t.turn.server.term) (suc (max b.server.term t.turn.server.term)) (omega arith) (omega arith) (λ s low f. inl (omega (arith, low))) in
       let all = goes_all m law n two Q quorum i less_n member_i (length w.sent) (max b.server.term t.turn.server.term) (suc (max b.server.term t.turn.server.term)) (omega arith) (suc me.term) (length me.log) (last_term me.log) y n 0 y (omega arith) (record {
-        inv = inv2; fresh = λ j lo other. refl;
+        inv = inv2;
+        fresh = λ j lo other. refl;
         calm = calm_here;
         asked = λ j lo hi q other. absurd (omega (arith, lo));
         requests = λ j lo other.
@@ -242,19 +254,26 @@ module _ {S C : Type 0} (m : Meaning S C) (law : LawfulMachine m) (n : ℕ) (eve
       let mine : inv2.me ≡ c = same_Some inv2.me c (sym inv2.here ∙ here_y) in
       let top : Top_in m law n two Q quorum i less_n member_i (length w.sent) (suc me.term) y = record { inv = inv2; term = ap (λ (z : Raft C). z.term) mine; role = subst (λ (z : Raft C). IsStanding z.mode) (sym mine) tt } in
       let all = goes_all m law n two Q quorum i less_n member_i (length w.sent) (suc me.term) (suc me.term) (omega arith) (suc me.term) (length me.log) (last_term me.log) y n 0 y (omega arith) (record {
-        inv = inv2; calm = calm_here; fresh = λ j lo other. refl;
+        inv = inv2;
+        calm = calm_here;
+        fresh = λ j lo other. refl;
         asked = λ j lo hi q other. absurd (omega (arith, lo));
         requests = λ j lo other.
             let a = to_others_has i (vote_request_to i c) n j lo other in
             get-behind w.sent out a.0 (vote_request_to i c j) a.1;
       }) in
       let g = all.1 in
-      let way = top_calm m law n two Q quorum i less_n member_i (length w.sent) (suc me.term) y top all.0 g.calm in
-      (y, all.0, h, way.1, λ k less q other.
-      let f = g.asked k less less q other in
-      grants_from m law n two Q quorum i less_n member_i (length w.sent) (suc me.term) y all.0 top k less q other f.asked (λ s at.
-      let there : slice_get w.servers k ≡ Some s = sym (get_set-other w.servers i c k other) ∙ (sym f.same ∙ at) in
-      subst (λ u. is_up_to_date s.log u f.asked.its_last ≡ true) (sym f.index) (subst (λ u. is_up_to_date s.log (length me.log) u ≡ true) (sym f.its_last) (best k s me less q there here))))
+      let way = top_calm m law n two Q quorum i less_n member_i (length w.sent) (suc me.term) y top all.0 g.calm in (
+        y,
+        all.0,
+        h,
+        way.1,
+        λ k less q other.
+            let f = g.asked k less less q other in
+            grants_from m law n two Q quorum i less_n member_i (length w.sent) (suc me.term) y all.0 top k less q other f.asked (λ s at.
+            let there : slice_get w.servers k ≡ Some s = sym (get_set-other w.servers i c k other) ∙ (sym f.same ∙ at) in
+            subst (λ u. is_up_to_date s.log u f.asked.its_last ≡ true) (sym f.index) (subst (λ u. is_up_to_date s.log (length me.log) u ≡ true) (sym f.its_last) (best k s me less q there here))),
+      )
 
   -- rounds
   pub rounds_exist : (T : ℕ) → Leads w i T → NobodyAhead n Q i w → (rounds : ℕ) → (v : World C) × Rounds m n Q i T w rounds v

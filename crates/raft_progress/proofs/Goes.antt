@@ -193,15 +193,25 @@ module _ {S C : Type 0} (m : Meaning S C) (law : LawfulMachine m) (n : ℕ) (two
       let a5 = top_calm T g.after_answer t4 v g.to_end in
       let voter = k1 T T fits x v top.inv T k less q other g in
       record {
-        at_request = g.at_request; after_request = g.after_request; at_answer = g.at_answer; after_answer = g.after_answer;
+        at_request = g.at_request;
+        after_request = g.after_request;
+        at_answer = g.at_answer;
+        after_answer = g.after_answer;
         to_request = a1.1;
-        request = g.request; index = g.index; its_last = g.its_last; request_is = g.request_is;
-        voter = voter.server; voter_here = voter.here;
+        request = g.request;
+        index = g.index;
+        its_last = g.its_last;
+        request_is = g.request_is;
+        voter = voter.server;
+        voter_here = voter.here;
         free = t1.inv.free k voter.server less q other voter.here;
         no_newer = no_newer voter.server voter.here;
         request_delivered = g.request_delivered;
         to_answer = a3.1;
-        answer = g.answer; answer_new = g.answer_new; answer_sent = g.answer_sent; answer_delivered = g.answer_delivered;
+        answer = g.answer;
+        answer_new = g.answer_new;
+        answer_sent = g.answer_sent;
+        answer_delivered = g.answer_delivered;
         to_end = a5.1;
       }
 
@@ -212,11 +222,11 @@ module _ {S C : Type 0} (m : Meaning S C) (law : LawfulMachine m) (n : ℕ) (two
       let a1 = top_calm T x top g.at_request g.to_request in
       let t1 = a1.0 in
       let rest : Calm m Q i since g.at_request v = calm_trans g.at_request g.after_answer v
-          (calm_on (Deliver g.answer) g.after_answer (calm_trans g.at_request g.after_request g.at_answer (calm_on (Deliver g.request) g.after_request calm_here tt (calm1 T T (omega arith) x v top.inv T k less q other g) g.request_delivered) g.to_answer)
-          tt (calm2 T T (omega arith) x v top.inv T k less q other g) g.answer_delivered) g.to_end in
+      (calm_on (Deliver g.answer) g.after_answer (calm_trans g.at_request g.after_request g.at_answer (calm_on (Deliver g.request) g.after_request calm_here tt (calm1 T T (omega arith) x v top.inv T k less q other g) g.request_delivered) g.to_answer)
+      tt (calm2 T T (omega arith) x v top.inv T k less q other g) g.answer_delivered) g.to_end in
       let was = was_candidate t1.inv.me me votes (term ∙ sym t1.term) mode (since_then T g.at_request t1 v rest me there) in
       let ends = request_end g.at_request t1.inv.reached t1.inv.me was.0 k g.index g.its_last g.request t1.inv.here was.1
-          (subst (λ u. slice_get g.at_request.sent g.request ≡ Some (record { from = i; to = k; term = u; body = VoteRequest g.index g.its_last })) (sym t1.term) g.request_is) in
+      (subst (λ u. slice_get g.at_request.sent g.request ≡ Some (record { from = i; to = k; term = u; body = VoteRequest g.index g.its_last })) (sym t1.term) g.request_is) in
       let l = t1.inv.each k s less q here in
       subst (λ u. is_up_to_date s.log u g.its_last ≡ true) (sym ends.0) (subst (λ u. is_up_to_date s.log (length t1.inv.me.log) u ≡ true) (sym ends.1) (no_older s.log t1.inv.me.log l.ends)))
 
