@@ -1,20 +1,19 @@
 -- What the one server that asks makes of calm inputs.
-use Rattle.std.proofs.Common.{◌≡◌, ◌≢◌, ℕ, zero, suc, ◌+◌, ◌-◌, ◌<◌, ◌≤◌, ◌⊎◌, inl, inr, max, Bool, true, false, ◌&&◌, nat_le, nat_lt, ◌==◌, Option, Some, None, Ok, List, [], ◌∷◌, ◌++◌, length, take, drop, refl, sym, ap, ◌∙◌, subst, arith, slice_get, slice_set, length-take-le}
-use Rattle.std.proofs.lemmas.Bool.{ltb-true, ltb-false, lt-ltb}
+use Rattle.std.proofs.Common.{◌≡◌, ℕ, zero, suc, ◌+◌, ◌-◌, ◌≤◌, ◌⊎◌, inl, inr, max, true, false, ◌&&◌, nat_le, nat_lt, ◌==◌, Option, Some, None, Ok, List, [], ◌∷◌, ◌++◌, length, take, drop, refl, sym, ap, ◌∙◌, subst, arith, slice_get, slice_set}
+use Rattle.std.proofs.lemmas.Bool.{ltb-true, ltb-false}
 use Rattle.std.proofs.lemmas.Bool.Decides.{leb_tells}
-use Rattle.std.proofs.lemmas.List.{length-take}
 use Rattle.rows.specs.declared.refusal.Refusal.{Refusal}
 use Rattle.machine_model.specs.Meaning.{Meaning}
 use Rattle.machine_model.specs.declared.entry.Entry.{Entry}
 use Rattle.raft_model.specs.Logs.{MAX, term_at, last_term}
 use Rattle.raft_model.specs.Quorums.{is_quorum, marked, index_at}
-use Rattle.raft_model.specs.Messages.{Message, Body, VoteRequest, VoteReply, Append, AppendReply, Install, InstallReply, to_others}
-use Rattle.raft_model.specs.Rafts.{Raft, RaftTurn, Mode, Down, Follower, Candidate, Leader, is_up, is_leader, silent, met, stood, vote_request_to, counted, won, advanced_in, hears_ok, hears_refusal, beats, beat_body, beat_message, compacted, extended}
-use Rattle.raft_model.specs.Steps.{Input, Arrives, Timeout, Beat, Propose, Compact, receives, times_out, proposes, step, admission_refusal, unless}
+use Rattle.raft_model.specs.Messages.{Message, Body, VoteRequest, VoteReply, Append, AppendReply, Install, InstallReply}
+use Rattle.raft_model.specs.Rafts.{Raft, RaftTurn, Mode, Down, Follower, Candidate, Leader, is_up, is_leader, silent, met, stood, vote_request_to, counted, advanced_in, hears_ok, hears_refusal, beats, beat_body, beat_message, compacted, extended}
+use Rattle.raft_model.specs.Steps.{Timeout, Propose, receives, step, admission_refusal, unless}
 use Rattle.raft_model.proofs.Cases.{bool_cases, same_ok}
 use Rattle.raft_safety.specs.Claims.{Limits}
 use Rattle.raft_safety.proofs.Frame.{term_zero}
-use Rattle.raft_safety.proofs.LeaderSteps.{length_take, length_drop}
+use Rattle.raft_safety.proofs.LeaderSteps.{length_take}
 use Rattle.raft_safety.proofs.Places.{push_length, to_others_is}
 use Rattle.raft_progress.specs.Campaign.{IsStanding}
 use Rattle.raft_progress.proofs.Answering.{met_log}
@@ -134,16 +133,18 @@ module _ {S C : Type 0} (m : Meaning S C) (n i : ℕ) where
         let t = (receives m.noop n i (met term me) k term body).server in
         let its : (met term me).term ≡ max me.term term = elim (bool_cases (nat_lt me.term term)) [ inl b ↦ rw b (omega (arith, ltb-true me.term term b)) | inr b ↦ rw b (omega (arith, ltb-false me.term term b)) ] in
         let alive : is_up (met term me).mode ≡ true = elim (bool_cases (nat_lt me.term term)) [ inl b ↦ rw b refl | inr b ↦ rw b up ] in
-        let z = o.1 in
-        (record {
-          up = z.up alive;
-          log = elim z.log [
-            | inl same ↦ inl (same ∙ met_log term me)
-            | inr g ↦ inr (g.0, g.1 ∙ ap (λ (l : List (Entry C)). l ++ g.0 ∷ []) (met_log term me), omega (arith, g.2, its, last_low))
-          ];
-          stands = λ same role. z.stands (elim (bool_cases (nat_lt me.term term)) [ inl b ↦ absurd (omega (arith, same, z.term, its, ltb-true me.term term b)) | inr b ↦ rw b role ]);
-          says = silent_says t _ (o.0);
-        }, omega (arith, z.term, its))
+        let z = o.1 in (
+          record {
+            up = z.up alive;
+            log = elim z.log [
+              | inl same ↦ inl (same ∙ met_log term me)
+              | inr g ↦ inr (g.0, g.1 ∙ ap (λ (l : List (Entry C)). l ++ g.0 ∷ []) (met_log term me), omega (arith, g.2, its, last_low))
+            ];
+            stands = λ same role. z.stands (elim (bool_cases (nat_lt me.term term)) [ inl b ↦ absurd (omega (arith, same, z.term, its, ltb-true me.term term b)) | inr b ↦ rw b role ]);
+            says = silent_says t _ (o.0);
+          },
+          omega (arith, z.term, its),
+        )
 
     -- what a leader sends is of its log
     beat_carries : (next match : List ℕ) → Facts n me next match → (to : ℕ) → Carries (beat_body me (index_at next to)) me.log
@@ -163,11 +164,13 @@ module _ {S C : Type 0} (m : Meaning S C) (n i : ℕ) where
           | inl one ↦ elim (leb_tells (suc last) (last_term me.log)) [ inl z ↦ inl z.1 | inr z ↦ inr (omega (arith, z.1, is, f.last, limits.terms index one.1 le), le) ]
           | inr none ↦ let e : index ≡ 0 = omega (arith, none.1) in elim (leb_tells (suc last) (last_term me.log)) [ inl z ↦ inl z.1 | inr z ↦ inr (omega (arith, z.1, is, ap (term_at me.log) e, term_zero me.log), le) ]
         ]
+
         first : (q : ℕ) → length (take me.covered me.log) ≡ q → (last_term (take me.covered me.log) ≡ term_at me.log (length (take me.covered me.log))) ⊎ (last_term (take me.covered me.log) ≡ 0)
         first q e = elim (leb_tells 1 (length (take me.covered me.log))) [
           | inl one ↦ inl (term_take me.covered me.log (length (take me.covered me.log)) one.1 (omega arith))
           | inr none ↦ let z : length (take me.covered me.log) ≡ 0 = omega (arith, none.1) in inr (ap (term_at (take me.covered me.log)) z ∙ term_zero (take me.covered me.log))
         ]
+
         fits : (p : ℕ) (X : List (Entry C)) → 1 ≤ length (take 32 (drop p X)) → p + length (take 32 (drop p X)) ≤ length X
         fits zero X some = omega (arith, length_take 32 X)
         fits (suc p) [] some = absurd (omega (arith, some))
@@ -211,10 +214,17 @@ module _ {S C : Type 0} (m : Meaning S C) (n i : ℕ) where
       | inr l ↦ let q = rw up at is in let q2 = rw l at q in elim (bool_cases (nat_lt me.term MAX && nat_lt (length me.log) MAX)) [
         | inr full ↦ absurd (let q3 = rw full at q2 in cc)
         | inl room ↦ subst (λ z. Acts i me z × (me.term ≤ z.server.term) × (z.server.term ≤ suc me.term) × (((z.server ≡ me) × (is_leader me.mode ≡ true)) ⊎ ((z.server.term ≡ suc me.term) × IsStanding z.server.mode)))
-            (same_ok _ _ (rw room at q2)) (record {
-              up = refl; log = inl refl; stands = λ same role. tt;
-              says = λ p y h. let t = to_others_is i (vote_request_to i (stood n i me)) n p y h in
-                  (ap (λ (z : Message C). z.from) t.3, ap (λ (z : Message C). z.term) t.3, subst (λ (z : Message C). Carries z.body me.log) (sym t.3) tt);
-            }, omega arith, omega arith, inr (refl, tt))
+            (same_ok _ _ (rw room at q2)) (
+              record {
+                up = refl;
+                log = inl refl;
+                stands = λ same role. tt;
+                says = λ p y h. let t = to_others_is i (vote_request_to i (stood n i me)) n p y h in
+                    (ap (λ (z : Message C). z.from) t.3, ap (λ (z : Message C). z.term) t.3, subst (λ (z : Message C). Carries z.body me.log) (sym t.3) tt);
+              },
+              omega arith,
+              omega arith,
+              inr (refl, tt),
+            )
       ]
     ]

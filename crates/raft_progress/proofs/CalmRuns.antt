@@ -1,25 +1,25 @@
 -- What stays so in a calm part of a run.
-use Rattle.std.proofs.Common.{◌≡◌, ◌≢◌, ℕ, zero, suc, ◌+◌, ◌<◌, ◌≤◌, ◌⊎◌, inl, inr, max, Bool, true, false, nat_lt, Option, Some, None, Result, Ok, Err, List, [], ◌∷◌, ◌++◌, length, refl, sym, ap, ◌∙◌, subst, arith, slice_get, slice_set, true≢false}
+use Rattle.std.proofs.Common.{◌≡◌, ◌≢◌, ℕ, ◌<◌, ◌≤◌, ◌⊎◌, inl, inr, Bool, true, false, Option, Some, None, Result, Ok, Err, List, [], ◌∷◌, length, refl, sym, ap, ◌∙◌, subst, arith, slice_get, true≢false}
 use Rattle.std.proofs.lemmas.Bool.Decides.{eqb_tells}
 use Rattle.std.proofs.lemmas.Option.{same_Some}
 use Rattle.rows.specs.declared.refusal.Refusal.{Refusal}
 use Rattle.machine_model.specs.Meaning.{Meaning, LawfulMachine}
 use Rattle.machine_model.specs.declared.entry.Entry.{Entry}
 use Rattle.raft_model.specs.Logs.{last_term}
-use Rattle.raft_model.specs.Messages.{Message, Body, to_others}
-use Rattle.raft_model.specs.Rafts.{Raft, RaftTurn, is_up, met, vote_request_to, stood, beat_message, beats}
+use Rattle.raft_model.specs.Messages.{Message, Body, VoteRequest, to_others}
+use Rattle.raft_model.specs.Rafts.{Raft, RaftTurn, is_up, met, vote_request_to, stood, beat_message, beats, silent, compacted}
 use Rattle.raft_model.specs.Steps.{Input, Arrives, Timeout, Beat, Propose, Compact, Crash, Restart, receives, step}
 use Rattle.raft_model.specs.Worlds.{World, Event, Deliver, TimesOut, Beats, Proposes, Compacts, Crashes, Restarts, IsEvent, happens, takes, delivers, input_to, after_turn}
 use Rattle.raft_model.proofs.Cases.{bool_cases, same_ok}
 use Rattle.raft_safety.specs.Claims.{Limits, IsAmongMembers}
-use Rattle.raft_safety.specs.Inner.SmallSteps.{WasSent, Small, raises, stands, grants_vote, refuses, counts, wins, extends, follows, takes_append, takes_install, acks, backs, advances, covers, beats_all, Path, still, only, after_one, Turns, walks, resets}
+use Rattle.raft_safety.specs.Inner.SmallSteps.{Small, raises, stands, grants_vote, refuses, counts, wins, extends, follows, takes_append, takes_install, acks, backs, advances, covers, beats_all, Path, still, only, after_one, Turns, walks, resets}
 use Rattle.raft_safety.proofs.Paths.{CameIn, step_path}
-use Rattle.raft_safety.proofs.Places.{get_set-same, get_set-cases, get-split, get-one, get-within, to_others_is}
+use Rattle.raft_safety.proofs.Places.{get-within, get_set-cases, get-split, get-one, to_others_is}
 use Rattle.raft_safety.proofs.Limits.{Bounds, run_bounds}
-use Rattle.raft_progress.specs.Campaign.{IsStanding, StandsIn, Campaign, stands_here, stands_on}
+use Rattle.raft_progress.specs.Campaign.{IsStanding, Campaign, stands_here, stands_on}
 use Rattle.raft_progress.specs.Calm.{IsCalm, Calm, calm_here, calm_on}
 use Rattle.raft_progress.proofs.Moves.{get_set-other, Reached, reached_next, reached_size, reached_limits, turned, turned_here, step_arrives}
-use Rattle.raft_progress.proofs.Changes.{Change, Kind, stays, falls, stands_up, counts_one, wins_now, appends_one, hears_one, turn_keeps, Before, event_before}
+use Rattle.raft_progress.proofs.Changes.{Kind, stays, falls, stands_up, counts_one, wins_now, appends_one, hears_one, turn_keeps, event_before}
 use Rattle.raft_progress.proofs.Leaders.{leader_facts}
 use Rattle.raft_progress.proofs.Choosing.{Ends}
 use Rattle.raft_progress.proofs.CalmSteps.{Carries, IsReply, Free, Heeds, heeds}
@@ -94,6 +94,7 @@ module _ {S C : Type 0} (m : Meaning S C) (n : ℕ) where
       go : (s : Raft C) → slice_get w.servers j ≡ Some s → (r : Result (RaftTurn C) Refusal) → step m (length w.servers) j s input ≡ r → after_turn m w j r ≡ Ok y → Taken w j input y
       go s here (Ok turn) e h = record { server = s; here = here; turn = turn; step_is = subst (λ c. step m c j s input ≡ Ok turn) size e; is = sym (same_ok _ _ h) }
       go s here (Err r) e h = absurd (cc)
+
       by : (o : Option (Raft C)) → slice_get w.servers j ≡ o → input_to m w j input o ≡ Ok y → Taken w j input y
       by None e h = absurd (cc)
       by (Some s) e h = go s e (step m (length w.servers) j s input) refl h
@@ -156,9 +157,9 @@ module _ {S C : Type 0} (m : Meaning S C) (law : LawfulMachine m) (n : ℕ) (Q :
     ];
     given = λ p y from there q. elim (get-split x.sent turn.sent p y there) [
       | inl e ↦ let g = v.given p y from e q in record {
-          term = omega (arith, g.term, le);
-          says = elim g.says [ inl z ↦ inl (z.0, carries_grow v.me.log turn.server.log a.log y.body z.1) | inr z ↦ inr z ];
-        }
+        term = omega (arith, g.term, le);
+        says = elim g.says [ inl z ↦ inl (z.0, carries_grow v.me.log turn.server.log a.log y.body z.1) | inr z ↦ inr z ];
+      }
       | inr e ↦ let g = a.says e.0 y e.1 in record { term = omega (arith, g.1, top); says = inl (g.0, g.2) }
     ];
   }
@@ -262,8 +263,8 @@ module _ {S C : Type 0} (m : Meaning S C) (law : LawfulMachine m) (n : ℕ) (Q :
               let its : Limits k.server = reached_limits m n law x v.reached msg.to k.server k.here in
               let is : k.turn ≡ receives m.noop n msg.to (met msg.term k.server) msg.from msg.term msg.body = same_ok _ _ (sym k.step_is ∙ step_arrives m n msg.to k.server msg old.up ok.from) in
               let hd : Heeds msg.to i k.server msg.term msg.body k.turn = subst (λ t. Heeds msg.to i k.server msg.term msg.body t) (sym is)
-                  (subst (λ f. Heeds msg.to i k.server msg.term msg.body (receives m.noop n msg.to (met msg.term k.server) f msg.term msg.body)) (sym asks.0)
-                  (heeds m n msg.to i k.server old.up its.commit msg.term v.me.log msg.body asks.1)) in
+              (subst (λ f. Heeds msg.to i k.server msg.term msg.body (receives m.noop n msg.to (met msg.term k.server) f msg.term msg.body)) (sym asks.0)
+              (heeds m n msg.to i k.server old.up its.commit msg.term v.me.log msg.body asks.1)) in
               subst (λ z. Next B T x z v) (sym k.is) (record {
                 inv = inv_heeds B T x v msg.to msg.term msg.body k.server k.turn ok.to q other k.here g.term (omega (arith, g.term, fits)) asks.1 hd (subst (λ z. Reached m n z) k.is r);
                 stands = λ same role. role;
@@ -275,6 +276,25 @@ module _ {S C : Type 0} (m : Meaning S C) (law : LawfulMachine m) (n : ℕ) (Q :
               let e : receives m.noop n i (met msg.term v.me) msg.from msg.term msg.body ≡ turn = same_ok _ _ (sym (step_arrives m n i v.me msg low.up ok.from) ∙ is) in
               subst (λ t. Acts i v.me t × (t.server.term ≤ B)) e (a.0, omega (arith, a.1, low.low, g.term))) r
         ]
+
+    -- a compaction of another member
+    next_compact : (j : ℕ) (y : World C) (k : Taken m n x j Compact y) → j < length x.servers → Q j ≡ true → j ≢ i → Reached m n y → Next B T x y v
+    unfolding inv_heeds Carries
+    next_compact j y k within q other r =
+        let less : j < n = omega (arith, within, reached_size m n x v.reached) in
+        let old = v.each j k.server less q k.here in
+        let is : silent (compacted k.server) ≡ k.turn = same_ok _ _ (rw old.up at k.step_is) in
+        let h : Heeds j i k.server 0 (VoteRequest 0 0) k.turn = subst (λ t. Heeds j i k.server 0 (VoteRequest 0 0) t) is (record {
+          up = old.up;
+          term_is = omega arith;
+          log = λ L e c. e;
+          says = inl refl;
+          free = λ U le f. f;
+        }) in
+        subst (λ z. Next B T x z v) (sym k.is) (record {
+          inv = inv_heeds B T x v j 0 (VoteRequest 0 0) k.server k.turn less q other k.here (omega arith) (omega arith) tt h (subst (λ z. Reached m n z) k.is r);
+          stands = λ same role. role;
+        })
 
     pub next_event : (fits : B ≤ T) (e : Event C) (y : World C) → IsEvent m e → IsCalm Q i since x e → happens m x e ≡ Ok y → Next B T x y v
     next_event fits (Deliver place) y is calm h = next_deliver fits place y calm h
@@ -297,9 +317,12 @@ module _ {S C : Type 0} (m : Meaning S C) (law : LawfulMachine m) (n : ℕ) (Q :
         let r = reached_next m n x (Compacts j) y v.reached tt h in
         elim (bool_cases (Q j)) [
           | inr out ↦ next_outside j Compact y k tt out r
-          | inl q ↦ next_acts Compact y (subst (λ z. Taken m n x z Compact y) (calm q) k) (λ turn is.
-              let low = mine in
-              subst (λ t. Acts i v.me t × (t.server.term ≤ B)) (same_ok _ _ (rw low.up at is)) (acts_compact m n i v.me low.up limits, low.low)) r
+          | inl q ↦ elim (eqb_tells j i) [
+            | inl e ↦ next_acts Compact y (subst (λ z. Taken m n x z Compact y) e.1 k) (λ turn is.
+                let low = mine in
+                subst (λ t. Acts i v.me t × (t.server.term ≤ B)) (same_ok _ _ (rw low.up at is)) (acts_compact m n i v.me low.up limits, low.low)) r
+            | inr e ↦ next_compact j y k (get-within x.servers j k.server k.here) q e.1 r
+          ]
         ]
     next_event fits (Proposes j command) y is calm h =
         let k = taken m n x j (Propose command) y (reached_size m n x v.reached) h in
@@ -321,7 +344,8 @@ module _ {S C : Type 0} (m : Meaning S C) (law : LawfulMachine m) (n : ℕ) (Q :
 
   pub calm_on_inv : (B T : ℕ) → B ≤ T → (x y : World C) (v : Inv B T x) → Calm m Q i since x y → Came B T x y v
   calm_on_inv B T fits x y v calm_here = record {
-    inv = v; term = omega arith;
+    inv = v;
+    term = omega arith;
     campaign = λ term role. stands_here (record { server = v.me; here = v.here; term = term; role = role });
   }
   calm_on_inv B T fits x y v (calm_on {x = z} e u c is calm h) =
@@ -336,7 +360,9 @@ module _ {S C : Type 0} (m : Meaning S C) (law : LawfulMachine m) (n : ℕ) (Q :
             let same : old.inv.me.term ≡ B = let l : Member B old.inv.me.log old.inv.me = old.inv.each i old.inv.me less_n member_i old.inv.here in omega (arith, term, old.term, l.low) in
             let now : next.inv.me.term ≡ B = omega (arith, same, rises, low.low) in
             stands_on e y (old.campaign term role) is h (record {
-              server = next.inv.me; here = next.inv.here; term = now;
+              server = next.inv.me;
+              here = next.inv.here;
+              term = now;
               role = next.stands (omega (arith, now, same)) (stands_at z old.inv.me old.inv.here (old.campaign term role));
             });
       }

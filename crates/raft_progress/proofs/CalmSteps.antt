@@ -1,22 +1,17 @@
 -- What servers make of calm inputs: one that only answers, and the one that asks.
-use Rattle.std.proofs.Common.{◌≡◌, ◌≢◌, ℕ, zero, suc, ◌+◌, ◌-◌, ◌<◌, ◌≤◌, ◌⊎◌, inl, inr, max, min, Bool, true, false, ◌&&◌, ◌||◌, nat_le, nat_lt, ◌==◌, Option, Some, None, Ok, List, [], ◌∷◌, ◌++◌, length, take, drop, refl, sym, ap, ◌∙◌, subst, arith, slice_get, slice_set, length-take-le}
-use Rattle.std.proofs.lemmas.Bool.{ltb-true, ltb-false, lt-ltb, leb-true, eq-eqb, eqb-true, and_parts}
+use Rattle.std.proofs.Common.{◌≡◌, ℕ, zero, suc, ◌+◌, ◌<◌, ◌≤◌, ◌⊎◌, inl, inr, max, Bool, true, false, ◌||◌, nat_le, nat_lt, ◌==◌, List, [], ◌∷◌, ◌++◌, length, take, drop, refl, sym, ap, ◌∙◌, subst, arith, length-take-le}
+use Rattle.std.proofs.lemmas.Bool.{ltb-true, ltb-false, leb-true, eq-eqb, and_parts}
 use Rattle.std.proofs.lemmas.Bool.Decides.{leb_tells}
 use Rattle.std.proofs.lemmas.List.{length-append}
-use Rattle.rows.specs.declared.refusal.Refusal.{Refusal}
 use Rattle.machine_model.specs.Meaning.{Meaning}
 use Rattle.machine_model.specs.declared.entry.Entry.{Entry}
-use Rattle.raft_model.specs.Logs.{MAX, term_at, last_term, has, merge, install}
-use Rattle.raft_model.specs.Quorums.{is_quorum, marked, index_at}
-use Rattle.raft_model.specs.Messages.{Message, Body, VoteRequest, VoteReply, Append, AppendReply, Install, InstallReply, to_others}
-use Rattle.raft_model.specs.Rafts.{Raft, RaftTurn, Mode, Down, Follower, Candidate, Leader, is_up, is_leader, silent, reply, met, stood, vote_request_to, is_free_for, grants, granted, counted, following, is_held, appended, follows_append, installed, advanced_in, hears_ok, hears_refusal, beats, beat_body, beat_message, compacted, extended}
-use Rattle.raft_model.specs.Steps.{Input, Arrives, Timeout, Beat, Propose, Compact, receives, times_out, proposes, acts, step, admission_refusal, unless}
-use Rattle.raft_model.proofs.Cases.{bool_cases, same_ok}
-use Rattle.raft_safety.specs.Claims.{Limits}
-use Rattle.raft_safety.proofs.LeaderSteps.{length_take, length_drop}
-use Rattle.raft_safety.proofs.Places.{get-one, push_length, to_others_is}
-use Rattle.raft_progress.specs.Campaign.{IsStanding}
-use Rattle.raft_progress.proofs.Leaders.{term_next, term_behind, last_push, Facts}
+use Rattle.raft_model.specs.Logs.{term_at, last_term, has, merge, install}
+use Rattle.raft_model.specs.Messages.{Body, VoteRequest, VoteReply, Append, AppendReply, Install, InstallReply}
+use Rattle.raft_model.specs.Rafts.{Raft, RaftTurn, is_up, is_leader, silent, reply, met, is_free_for, grants, granted, following, is_held, appended}
+use Rattle.raft_model.specs.Steps.{receives}
+use Rattle.raft_model.proofs.Cases.{bool_cases}
+use Rattle.raft_safety.proofs.LeaderSteps.{length_drop}
+use Rattle.raft_progress.proofs.Leaders.{term_next, term_behind}
 use Rattle.raft_progress.proofs.Choosing.{Ends}
 use Rattle.raft_progress.proofs.Answering.{met_log, met_commit}
 
@@ -54,6 +49,7 @@ module _ {C : Type 0} where
             let a = and_parts (nat_le (suc p) (length log)) (term_at log (suc p) == e.term) r in
             leb-true (suc p) (length log) a.0
       ]
+
       by : (suc p ≤ length log → (merge c (suc p) log es ≡ log) ⊎ ((length (merge c (suc p) log es) ≡ suc p + length es) × (last_term (merge c (suc p) log es) ≡ last_term es) × (1 ≤ length es))) →
           (t : Bool) → (nat_le (suc p) c || has log (suc p) e.term) ≡ t →
           (merge c p log (e ∷ es) ≡ log) ⊎ ((length (merge c p log (e ∷ es)) ≡ p + length (e ∷ es)) × (last_term (merge c p log (e ∷ es)) ≡ last_term (e ∷ es)) × (1 ≤ length (e ∷ es)))
@@ -62,9 +58,9 @@ module _ {C : Type 0} where
         | inr z ↦ inr (omega (arith, z.0), z.1 ∙ sym (term_next e es (length es) z.2), omega arith)
       ])
       by old false test = rw test (
-        let size : length (take p log) ≡ p = length-take-le p log le in
-        let all : length (take p log ++ e ∷ es) ≡ length (take p log) + length (e ∷ es) = length-append (take p log) (e ∷ es) in
-        inr (omega (arith, all, size), ap (term_at (take p log ++ e ∷ es)) all ∙ term_behind (take p log) (e ∷ es) (length (e ∷ es)) (omega arith), omega arith))
+          let size : length (take p log) ≡ p = length-take-le p log le in
+          let all : length (take p log ++ e ∷ es) ≡ length (take p log) + length (e ∷ es) = length-append (take p log) (e ∷ es) in
+          inr (omega (arith, all, size), ap (term_at (take p log ++ e ∷ es)) all ∙ term_behind (take p log) (e ∷ es) (length (e ∷ es)) (omega arith), omega arith))
 
   -- the last entry of the first of two lists
   first : (X Y : List (Entry C)) → term_at (X ++ Y) (length X) ≡ term_at X (length X)
@@ -89,8 +85,11 @@ module _ {C : Type 0} where
           | inl e ↦
               let same : length (P ++ drop (length P) log) ≡ length P = omega (arith, size, e.1, le) in
               inr (same, ap (term_at (P ++ drop (length P) log)) same ∙ first P (drop (length P) log))
-          | inr e ↦ inl (size, ap (term_at (P ++ drop (length P) log)) all ∙ (term_behind P (drop (length P) log) (length (drop (length P) log)) (omega (arith, e.1, rest)) ∙
-              (sym (term_drop (length P) log (length (drop (length P) log)) (omega (arith, e.1, rest))) ∙ ap (term_at log) rest)))
+          | inr e ↦ inl (
+            size,
+            ap (term_at (P ++ drop (length P) log)) all ∙ (term_behind P (drop (length P) log) (length (drop (length P) log)) (omega (arith, e.1, rest)) ∙
+                (sym (term_drop (length P) log (length (drop (length P) log)) (omega (arith, e.1, rest))) ∙ ap (term_at log) rest)),
+          )
         ])
   ]
 
@@ -165,7 +164,11 @@ module _ {S C : Type 0} (m : Meaning S C) (n j i : ℕ) (s : Raft C) (up : is_up
   answered : (t : Raft C) (body b : Body C) → is_up t.mode ≡ true → t.term ≡ r.term → t.vote ≡ r.vote → ((L : List (Entry C)) → Ends (length s.log) (last_term s.log) L → Carries body L → Ends (length t.log) (last_term t.log) L) →
       IsReply b → Heeds j i s term body (reply j t i b)
   answered t body b its_up its vote log answer = record {
-    up = its_up; term_is = its ∙ r_term; log = log; says = inr (b, refl, answer); free = same_free t its vote;
+    up = its_up;
+    term_is = its ∙ r_term;
+    log = log;
+    says = inr (b, refl, answer);
+    free = same_free t its vote;
   }
 
   -- silence
@@ -179,7 +182,10 @@ module _ {S C : Type 0} (m : Meaning S C) (n j i : ℕ) (s : Raft C) (up : is_up
       by : (b : Bool) → Heeds j i s term (VoteRequest index its_last) (reply j (granted r i b) i (VoteReply term b))
       by false = answered r (VoteRequest index its_last) (VoteReply term false) r_up refl refl (kept r (VoteRequest index its_last) refl) tt
       by true = record {
-        up = r_up; term_is = r_term; log = kept (granted r i true) (VoteRequest index its_last) refl; says = inr (VoteReply term true, refl, tt);
+        up = r_up;
+        term_is = r_term;
+        log = kept (granted r i true) (VoteRequest index its_last) refl;
+        says = inr (VoteReply term true, refl, tt);
         free = λ T le f. elim (r_free T le f) [ inl z ↦ inl z | inr z ↦ inr (z.0, eq-eqb i i refl) ];
       }
 
@@ -198,6 +204,7 @@ module _ {S C : Type 0} (m : Meaning S C) (n j i : ℕ) (s : Raft C) (up : is_up
     where
       body : Body C
       body = Append prev prev_term commit es
+
       prev_fits : is_held (following r i) prev prev_term ≡ true → prev ≤ length r.log
       prev_fits h = elim (bool_cases (nat_le prev r.commit)) [
         | inl b ↦ omega (arith, r_fits, leb-true prev r.commit b)
@@ -206,6 +213,7 @@ module _ {S C : Type 0} (m : Meaning S C) (n j i : ℕ) (s : Raft C) (up : is_up
             let a = and_parts (nat_le prev (length r.log)) (term_at r.log prev == prev_term) q in
             leb-true prev (length r.log) a.0
       ]
+
       merged : is_held (following r i) prev prev_term ≡ true → (L : List (Entry C)) → Ends (length s.log) (last_term s.log) L → Carries body L → Ends (length (merge r.commit prev r.log es)) (last_term (merge r.commit prev r.log es)) L
       merged h L e c = elim (merge_end r.commit prev r.log es r_fits (prev_fits h)) [
         | inl same ↦ subst (λ (l : List (Entry C)). Ends (length l) (last_term l) L) (sym (same ∙ r_log)) e

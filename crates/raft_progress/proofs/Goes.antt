@@ -1,40 +1,39 @@
 -- In a calm part of a run the one candidate leads after two goes.
-use Rattle.std.proofs.Common.{◌≡◌, ◌≢◌, ℕ, zero, suc, ◌+◌, ◌<◌, ◌≤◌, ◌⊎◌, inl, inr, max, Bool, true, false, Some, None, Ok, List, [], ◌∷◌, ◌++◌, length, refl, sym, ap, ◌∙◌, subst, arith, slice_get, slice_set}
+use Rattle.std.proofs.Common.{◌≡◌, ◌≢◌, ℕ, suc, ◌<◌, ◌≤◌, ◌⊎◌, inl, inr, max, Bool, true, false, Some, Ok, List, [], ◌∷◌, ◌++◌, length, refl, sym, ap, ◌∙◌, subst, arith, slice_get}
 use Rattle.std.proofs.lemmas.Bool.Decides.{eqb_tells, leb_tells}
 use Rattle.std.proofs.lemmas.List.{length-append}
 use Rattle.std.proofs.lemmas.Option.{same_Some}
 use Rattle.machine_model.specs.Meaning.{Meaning, LawfulMachine}
-use Rattle.machine_model.specs.declared.entry.Entry.{Entry}
 use Rattle.raft_model.specs.Logs.{last_term}
 use Rattle.raft_model.specs.Quorums.{Quorum}
 use Rattle.raft_model.specs.Messages.{Message, Body, VoteRequest}
-use Rattle.raft_model.specs.Rafts.{Raft, RaftTurn, Mode, Down, Follower, Candidate, Leader, is_up, is_leader, is_up_to_date, met, silent}
+use Rattle.raft_model.specs.Rafts.{Raft, RaftTurn, Mode, Down, Follower, Candidate, Leader, is_leader, is_up_to_date, met}
 use Rattle.raft_model.specs.Steps.{Arrives, Timeout, receives, step}
 use Rattle.raft_model.specs.Worlds.{World, Event, Run, Deliver, TimesOut, IsEvent, happens, Leads}
-use Rattle.raft_model.proofs.Cases.{bool_cases, same_ok}
+use Rattle.raft_model.proofs.Cases.{same_ok}
 use Rattle.raft_safety.specs.Claims.{Limits}
-use Rattle.raft_safety.specs.Inner.SmallSteps.{KnowsNothing, WasSent}
-use Rattle.raft_safety.specs.Inner.Invariants.{CandidateOk, MessageOk, RequestOk, BodyOk, ServerOk}
+use Rattle.raft_safety.specs.Inner.SmallSteps.{KnowsNothing}
+use Rattle.raft_safety.specs.Inner.Invariants.{CandidateOk, MessageOk, RequestOk, BodyOk}
 use Rattle.raft_safety.proofs.Places.{get-more, get-some, get-within}
-use Rattle.raft_safety.proofs.Election.{Moves, event_moves}
+use Rattle.raft_safety.proofs.Election.{event_moves}
 use Rattle.raft_safety.proofs.QuietSteps.{as_candidate}
 use Rattle.raft_safety.proofs.Stories.{story}
-use Rattle.raft_progress.specs.Campaign.{IsStanding, StandsIn, Campaign, stands_here, stands_on, Granted}
+use Rattle.raft_progress.specs.Campaign.{IsStanding, StandsIn, Campaign, Granted}
 use Rattle.raft_progress.specs.Calm.{IsCalm, Calm, calm_here, calm_on, Asked, Go, HasBestLog, NobodyAhead, StableLeader}
 use Rattle.raft_progress.specs.Peace.{Peace, leads_here, leads_on, CommitsAll}
 use Rattle.raft_progress.specs.Recovery.{AllUp}
 use Rattle.raft_progress.proofs.Moves.{Reached, reached_next, reached_size, reached_limits, turned, turned_here, step_arrives}
-use Rattle.raft_progress.proofs.Choosing.{Ends, no_older, told, Top, Empty, pick, server_at, server_is}
+use Rattle.raft_progress.proofs.Choosing.{no_older, told, pick, server_at, server_is}
 use Rattle.raft_progress.proofs.Leaders.{leads_in}
-use Rattle.raft_progress.proofs.Onwards.{same_votes, Since, later, idle, voted, elected, led, Kept, campaign_on}
+use Rattle.raft_progress.proofs.Onwards.{Since, later, idle, voted, elected, led, campaign_on}
 use Rattle.raft_progress.proofs.Rounds.{one_behind, leader_commits}
 use Rattle.raft_progress.proofs.Campaigning.{campaign_wins}
 use Rattle.raft_progress.proofs.CalmSteps.{Carries, IsReply, Free, Heeds, heeds}
 use Rattle.raft_progress.proofs.CalmActs.{Acts, acts_reply, acts_timeout}
-use Rattle.raft_progress.proofs.CalmRuns.{event_term, Taken, taken, delivered, Delivered, Given, Member, Inv, inv_acts, Next, next_event, Came, calm_on_inv}
+use Rattle.raft_progress.proofs.CalmRuns.{event_term, Taken, taken, delivered, Member, Inv, inv_acts, Next, next_event, Came, calm_on_inv}
 
 module _ {S C : Type 0} (m : Meaning S C) (law : LawfulMachine m) (n : ℕ) (two : 2 ≤ n) (Q : ℕ → Bool) (quorum : Quorum n Q) (i : ℕ) (less_n : i < n) (member_i : Q i ≡ true) (since : ℕ) where
-  abbrev Its : ℕ → ℕ → World C → Type 0
+  abbrev pub Its : ℕ → ℕ → World C → Type 0
   Its B T x = Inv m law n Q i less_n member_i since B T x
 
   -- what was sent stays, and terms never fall
@@ -90,9 +89,12 @@ module _ {S C : Type 0} (m : Meaning S C) (law : LawfulMachine m) (n : ℕ) (two
           | inl none ↦ absurd (omega (arith, g.answer_new, g.answer_sent, ap length sent, length-append g.at_request.sent k1.turn.sent, ap length none))
           | inr one ↦
               let y : Message C = record { from = k; to = i; term = k1.turn.server.term; body = one.0 } in
-              let all : g.after_request.sent ≡ g.at_request.sent ++ y ∷ [] = sent ∙ ap (λ (l : List (Message C)). g.at_request.sent ++ l) one.1 in
-              (one.0, calm_sent g.after_request g.at_answer g.answer y g.to_answer
-              (ap (λ (l : List (Message C)). slice_get l g.answer) all ∙ one_behind g.at_request.sent y g.answer g.answer_new (omega (arith, g.answer_sent, ap length all))), one.2)
+              let all : g.after_request.sent ≡ g.at_request.sent ++ y ∷ [] = sent ∙ ap (λ (l : List (Message C)). g.at_request.sent ++ l) one.1 in (
+                one.0,
+                calm_sent g.after_request g.at_answer g.answer y g.to_answer
+                    (ap (λ (l : List (Message C)). slice_get l g.answer) all ∙ one_behind g.at_request.sent y g.answer g.answer_new (omega (arith, g.answer_sent, ap length all))),
+                one.2,
+              )
         ]
 
     calm2 : IsCalm Q i since g.at_answer (Deliver g.answer)
@@ -132,10 +134,10 @@ module _ {S C : Type 0} (m : Meaning S C) (law : LawfulMachine m) (n : ℕ) (two
       (rq.index_is ∙ ap length same, rq.last_is ∙ ap last_term same)
 
   -- it stands in the greatest term
-  record Top_in (T : ℕ) (x : World C) : Type 0 where
-    inv : Its T T x
-    term : inv.me.term ≡ T
-    role : IsStanding inv.me.mode
+  pub record Top_in (T : ℕ) (x : World C) : Type 0 where
+    pub inv : Its T T x
+    pub term : inv.me.term ≡ T
+    pub role : IsStanding inv.me.mode
 
   -- also after an event
   top_next : (T : ℕ) (y z : World C) (t : Top_in T y) (inv : Its T T y) (nx : Next m law n Q i less_n member_i since T T y z inv) (e : Event C) → IsEvent m e → happens m y e ≡ Ok z → Top_in T z
@@ -161,7 +163,7 @@ module _ {S C : Type 0} (m : Meaning S C) (law : LawfulMachine m) (n : ℕ) (two
 
   module _ (T : ℕ) (x : World C) (top : Top_in T x) where
     -- later in the calm part
-    top_calm : (y : World C) → Calm m Q i since x y → Top_in T y × Campaign m i T x y
+    pub top_calm : (y : World C) → Calm m Q i since x y → Top_in T y × Campaign m i T x y
     top_calm y c =
         let a = calm_on_inv m law n Q i less_n member_i since T T (omega arith) x y top.inv c in
         let w = a.campaign top.term top.role in
@@ -174,10 +176,10 @@ module _ {S C : Type 0} (m : Meaning S C) (law : LawfulMachine m) (n : ℕ) (two
         let k = campaign_on m law n i T x y top.inv.reached ((top_calm y c).1) in
         subst (λ z. Since n top.inv.me z) (same_Some k.stands.server t (sym k.stands.here ∙ there)) (k.since (record { server = top.inv.me; here = top.inv.here; term = top.term; role = top.role }))
 
-  -- server k grants its vote to who is a candidate to the end
-  grants_it : (T : ℕ) (x v : World C) (top : Top_in T x) (me : Raft C) (votes : List Bool) → slice_get v.servers i ≡ Some me → me.term ≡ T → me.mode ≡ Candidate votes →
-      (k : ℕ) → k < n → Q k ≡ true → k ≢ i → Asked m Q i since T k x v → Granted m i T k x v
-  grants_it T x v top me votes there term mode k less q other g =
+  -- server k grants its vote, if its log is no newer
+  pub grants_from : (T : ℕ) (x v : World C) (top : Top_in T x) (k : ℕ) (less : k < n) (q : Q k ≡ true) (other : k ≢ i) (g : Asked m Q i since T k x v) →
+      ((s : Raft C) → slice_get g.at_request.servers k ≡ Some s → is_up_to_date s.log g.index g.its_last ≡ true) → Granted m i T k x v
+  grants_from T x v top k less q other g no_newer =
       let fits : T ≤ T = omega arith in
       let a1 = top_calm T x top g.at_request g.to_request in
       let t1 = a1.0 in
@@ -190,25 +192,43 @@ module _ {S C : Type 0} (m : Meaning S C) (law : LawfulMachine m) (n : ℕ) (two
       let t4 = top_next T g.at_answer g.after_answer a3.0 c2i.inv nx2 (Deliver g.answer) tt g.answer_delivered in
       let a5 = top_calm T g.after_answer t4 v g.to_end in
       let voter = k1 T T fits x v top.inv T k less q other g in
-      let rest : Calm m Q i since g.at_request v = calm_trans g.at_request g.after_answer v
-          (calm_on (Deliver g.answer) g.after_answer (calm_trans g.at_request g.after_request g.at_answer (calm_on (Deliver g.request) g.after_request calm_here tt (calm1 T T fits x v top.inv T k less q other g) g.request_delivered) g.to_answer)
-          tt (calm2 T T fits x v top.inv T k less q other g) g.answer_delivered) g.to_end in
-      let was = was_candidate t1.inv.me me votes (term ∙ sym t1.term) mode (since_then T g.at_request t1 v rest me there) in
-      let ends = request_end g.at_request t1.inv.reached t1.inv.me was.0 k g.index g.its_last g.request t1.inv.here was.1
-          (subst (λ u. slice_get g.at_request.sent g.request ≡ Some (record { from = i; to = k; term = u; body = VoteRequest g.index g.its_last })) (sym t1.term) g.request_is) in
-      let l = t1.inv.each k voter.server less q voter.here in
       record {
-        at_request = g.at_request; after_request = g.after_request; at_answer = g.at_answer; after_answer = g.after_answer;
+        at_request = g.at_request;
+        after_request = g.after_request;
+        at_answer = g.at_answer;
+        after_answer = g.after_answer;
         to_request = a1.1;
-        request = g.request; index = g.index; its_last = g.its_last; request_is = g.request_is;
-        voter = voter.server; voter_here = voter.here;
+        request = g.request;
+        index = g.index;
+        its_last = g.its_last;
+        request_is = g.request_is;
+        voter = voter.server;
+        voter_here = voter.here;
         free = t1.inv.free k voter.server less q other voter.here;
-        no_newer = subst (λ u. is_up_to_date voter.server.log u g.its_last ≡ true) (sym ends.0) (subst (λ u. is_up_to_date voter.server.log (length t1.inv.me.log) u ≡ true) (sym ends.1) (no_older voter.server.log t1.inv.me.log l.ends));
+        no_newer = no_newer voter.server voter.here;
         request_delivered = g.request_delivered;
         to_answer = a3.1;
-        answer = g.answer; answer_new = g.answer_new; answer_sent = g.answer_sent; answer_delivered = g.answer_delivered;
+        answer = g.answer;
+        answer_new = g.answer_new;
+        answer_sent = g.answer_sent;
+        answer_delivered = g.answer_delivered;
         to_end = a5.1;
       }
+
+  -- as to who is a candidate to the end
+  grants_it : (T : ℕ) (x v : World C) (top : Top_in T x) (me : Raft C) (votes : List Bool) → slice_get v.servers i ≡ Some me → me.term ≡ T → me.mode ≡ Candidate votes →
+      (k : ℕ) → k < n → Q k ≡ true → k ≢ i → Asked m Q i since T k x v → Granted m i T k x v
+  grants_it T x v top me votes there term mode k less q other g = grants_from T x v top k less q other g (λ s here.
+      let a1 = top_calm T x top g.at_request g.to_request in
+      let t1 = a1.0 in
+      let rest : Calm m Q i since g.at_request v = calm_trans g.at_request g.after_answer v
+      (calm_on (Deliver g.answer) g.after_answer (calm_trans g.at_request g.after_request g.at_answer (calm_on (Deliver g.request) g.after_request calm_here tt (calm1 T T (omega arith) x v top.inv T k less q other g) g.request_delivered) g.to_answer)
+      tt (calm2 T T (omega arith) x v top.inv T k less q other g) g.answer_delivered) g.to_end in
+      let was = was_candidate t1.inv.me me votes (term ∙ sym t1.term) mode (since_then T g.at_request t1 v rest me there) in
+      let ends = request_end g.at_request t1.inv.reached t1.inv.me was.0 k g.index g.its_last g.request t1.inv.here was.1
+      (subst (λ u. slice_get g.at_request.sent g.request ≡ Some (record { from = i; to = k; term = u; body = VoteRequest g.index g.its_last })) (sym t1.term) g.request_is) in
+      let l = t1.inv.each k s less q here in
+      subst (λ u. is_up_to_date s.log u g.its_last ≡ true) (sym ends.0) (subst (λ u. is_up_to_date s.log (length t1.inv.me.log) u ≡ true) (sym ends.1) (no_older s.log t1.inv.me.log l.ends)))
 
   -- so it leads in the end
   top_leads : (T : ℕ) (x v : World C) → Top_in T x → Calm m Q i since x v → ((k : ℕ) → k < n → Q k ≡ true → k ≢ i → Asked m Q i since T k x v) → Leads v i T
@@ -287,7 +307,12 @@ module _ {S C : Type 0} (m : Meaning S C) (law : LawfulMachine m) (n : ℕ) (two
       let l : Member m law n Q i less_n member_i since B v.me.log v.me = v.each i v.me less_n member_i v.here in
       let t = acts_timeout m n i v.me l.up (reached_limits m n law x v.reached i v.me v.here) k.turn (subst (λ z. step m n i z Timeout ≡ Ok k.turn) mine k.step_is) in
       record {
-        turn = k.turn; acts = t.0; rises = t.1; few = t.2; cases = t.3; is = k.is;
+        turn = k.turn;
+        acts = t.0;
+        rises = t.1;
+        few = t.2;
+        cases = t.3;
+        is = k.is;
         here = ap (λ (w : World C). slice_get w.servers i) k.is ∙ turned_here m n x i k.turn k.server k.here;
         reached = reached_next m n x (TimesOut i) y v.reached tt h;
       }
@@ -311,21 +336,29 @@ module _ {S C : Type 0} (m : Meaning S C) (law : LawfulMachine m) (n : ℕ) (two
             let same : t.turn.server.term ≡ B = ap (λ (z : Raft C). z.term) leads.0 ∙ now in
             let inv = timed_inv B g.at_timeout g.after_timeout x t B (suc B) (omega arith) (omega (arith, same)) (λ s low f. f) in
             let me : inv.me ≡ t.turn.server = same_Some inv.me t.turn.server (sym inv.here ∙ t.here) in
-            let after = calm_on_inv m law n Q i less_n member_i since B (suc B) (omega arith) g.after_timeout u inv g.to_end in
-            (B, record {
-              bound = suc B; fits = omega arith; inv = after.inv;
-              leads = leader_stays B (suc B) (omega arith) g.after_timeout u inv (ap (λ (z : Raft C). z.term) me ∙ same) (ap (λ (z : Raft C). is_leader z.mode) me ∙ (ap (λ (z : Raft C). is_leader z.mode) leads.0 ∙ leads.1)) g.to_end;
-            })
+            let after = calm_on_inv m law n Q i less_n member_i since B (suc B) (omega arith) g.after_timeout u inv g.to_end in (
+              B,
+              record {
+                bound = suc B;
+                fits = omega arith;
+                inv = after.inv;
+                leads = leader_stays B (suc B) (omega arith) g.after_timeout u inv (ap (λ (z : Raft C). z.term) me ∙ same) (ap (λ (z : Raft C). is_leader z.mode) me ∙ (ap (λ (z : Raft C). is_leader z.mode) leads.0 ∙ leads.1)) g.to_end;
+              },
+            )
         | inr stood ↦
             let T = t.turn.server.term in
             let inv = timed_inv B g.at_timeout g.after_timeout x t t.turn.server.term t.turn.server.term (omega (arith, t.rises, now)) (omega arith) (λ s low f. inl (omega (arith, low, stood.0, now))) in
             let me : inv.me ≡ t.turn.server = same_Some inv.me t.turn.server (sym inv.here ∙ t.here) in
             let top : Top_in t.turn.server.term g.after_timeout = record { inv = inv; term = ap (λ (z : Raft C). z.term) me; role = subst (λ (z : Raft C). IsStanding z.mode) (sym me) stood.1 } in
-            let after = top_calm t.turn.server.term g.after_timeout top u g.to_end in
-            (t.turn.server.term, record {
-              bound = t.turn.server.term; fits = omega arith; inv = let a = after.0 in a.inv;
-              leads = top_leads t.turn.server.term g.after_timeout u top g.to_end (λ j less q other. subst (λ z. Asked m Q i since z j g.after_timeout u) its_term (g.asked j less q other));
-            })
+            let after = top_calm t.turn.server.term g.after_timeout top u g.to_end in (
+              t.turn.server.term,
+              record {
+                bound = t.turn.server.term;
+                fits = omega arith;
+                inv = let a = after.0 in a.inv;
+                leads = top_leads t.turn.server.term g.after_timeout u top g.to_end (λ j less q other. subst (λ z. Asked m Q i since z j g.after_timeout u) its_term (g.asked j less q other));
+              },
+            )
       ]
 
   -- after a first go nobody is ahead of it
@@ -348,10 +381,14 @@ module _ {S C : Type 0} (m : Meaning S C) (law : LawfulMachine m) (n : ℕ) (two
             let voter = k1 (max B t.turn.server.term) (suc (max B t.turn.server.term)) fits g.after_timeout v y g.candidate.term k less q e.1 h in
             let m1 = get-some g.at_timeout.servers k (omega (arith, less, reached_size m n g.at_timeout x.reached)) in
             let m2 = get-some g.after_timeout.servers k (omega (arith, less, reached_size m n g.after_timeout t.reached)) in
-            omega (arith, high, calm_term w g.at_timeout inv.reached g.to_timeout k s m1.0 less here m1.1,
-            event_term m n g.at_timeout g.after_timeout (TimesOut i) x.reached tt g.timeout k m1.0 m2.0 m1.1 m2.1,
-            calm_term g.after_timeout h.at_request t.reached h.to_request k m2.0 voter.server less m2.1 voter.here,
-            hears_of (max B t.turn.server.term) (suc (max B t.turn.server.term)) fits g.after_timeout v y g.candidate.term k less q e.1 h z.inv.me z.inv.here)
+            omega (
+              arith,
+              high,
+              calm_term w g.at_timeout inv.reached g.to_timeout k s m1.0 less here m1.1,
+              event_term m n g.at_timeout g.after_timeout (TimesOut i) x.reached tt g.timeout k m1.0 m2.0 m1.1 m2.1,
+              calm_term g.after_timeout h.at_request t.reached h.to_request k m2.0 voter.server less m2.1 voter.here,
+              hears_of (max B t.turn.server.term) (suc (max B t.turn.server.term)) fits g.after_timeout v y g.candidate.term k less q e.1 h z.inv.me z.inv.here,
+            )
       ] in
       (max B t.turn.server.term, record { inv = z.inv; top = omega (arith, own, heard) })
 
@@ -398,7 +435,11 @@ module _ {S C : Type 0} (m : Meaning S C) (law : LawfulMachine m) (n : ℕ) (eve
     | inr top ↦
         let at : (j : ℕ) → j < n → slice_get w.servers j ≡ Some (server_at w j) = λ j less. server_is w j (omega (arith, less, size)) in
         record {
-          who = top.top; below = top.below; member = top.member; server = server_at w top.top; at = at top.top top.below;
+          who = top.top;
+          below = top.below;
+          member = top.member;
+          server = server_at w top.top;
+          at = at top.top top.below;
           low = λ j s less q there. omega (arith, top.all j less q, ap (λ (z : Raft C). z.term) (same_Some s (server_at w j) (sym there ∙ at j less)));
         }
   ]
