@@ -26,7 +26,8 @@ Examples:
 
 '-' for FILE, and for the transcript that 'replay', 'draw', 'tell' and 'inspect'
 take, is the standard input. 'nomadsim run --help' says what a scenario's file holds, and
-'nomadsim check FILE' what is wrong with one.
+'nomadsim check FILE' what is wrong with one. A file that is read has at most 67108864
+bytes.
 
 Exit status:
   0  every step was taken, or whatever else was asked for was done
@@ -264,7 +265,8 @@ also
     settle N    the same, up to N times, N from 0 to 18446744073709551615
 and objects of exactly the keys \"repeat\", a number, and \"steps\", a list of the
 same kind, whose steps are taken so many times; there are at most 1000000 steps
-in the end.
+in the end, and the lines of those that stand in the lists have at most 33554432
+bytes together, as often as they are taken.
 
 The steps are played, as 'nomadsim run' plays them, and those that were taken
 are printed as a scenario, which 'nomadsim run' plays to the same end. Refused

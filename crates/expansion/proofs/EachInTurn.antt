@@ -22,20 +22,17 @@ module _ {A B : Type 0} (One : A → List B → Type 0) where
     same_of_each (x ∷ xs) a b is too =
         is.2 ∙ ap₂ (λ s t. s ++ t) (once x is.0 too.0 is.3 too.3) (same_of_each xs is.1 too.1 is.4 too.4) ∙ sym too.2
 
-    -- and of all comes no less than of the first ones and the next
-    pub no_less_of_each : (xs : List A) (i : ℕ) (x : A) (front own all : List B) → OfEach One (take i xs) front → One x own → OfEach One xs all → i < length xs → get_or xs i x ≡ x
-        → length front + length own ≤ length all
-    no_less_of_each [] i x front own all first is are lt at = absurd (omega arith)
-    no_less_of_each (y ∷ xs) zero x front own all first is are lt at =
+    -- and what comes of all begins with what comes of the first ones and the next
+    pub begins_of_each : (xs : List A) (i : ℕ) (x : A) (front own all : List B) → OfEach One (take i xs) front → One x own → OfEach One xs all → i < length xs → get_or xs i x ≡ x
+        → (rest : List B) × (all ≡ (front ++ own) ++ rest)
+    begins_of_each [] i x front own all first is are lt at = absurd (omega arith)
+    begins_of_each (y ∷ xs) zero x front own all first is are lt at =
         let same : are.0 ≡ own = once x are.0 own (rw (← at) are.3) is in
-        let lengths : length all ≡ length are.0 + length are.1 = ap length are.2 ∙ length-append are.0 are.1 in
-        let none : length front ≡ 0 = ap length first in
-        let equal : length are.0 ≡ length own = ap length same in
-        omega arith
-    no_less_of_each (y ∷ xs) (suc i) x front own all first is are lt at =
+        (are.1, are.2 ∙ ap₂ (λ s t. (s ++ t) ++ are.1) (sym first) same)
+    begins_of_each (y ∷ xs) (suc i) x front own all first is are lt at =
         let same : first.0 ≡ are.0 = once y first.0 are.0 first.3 are.3 in
-        let rest : length first.1 + length own ≤ length are.1 = no_less_of_each xs i x first.1 own are.1 first.4 is are.4 (omega arith) at in
-        let before : length front ≡ length first.0 + length first.1 = ap length first.2 ∙ length-append first.0 first.1 in
-        let lengths : length all ≡ length are.0 + length are.1 = ap length are.2 ∙ length-append are.0 are.1 in
-        let equal : length first.0 ≡ length are.0 = ap length same in
-        omega arith
+        let rest = begins_of_each xs i x first.1 own are.1 first.4 is are.4 (omega arith) at in
+        let whole : are.0 ++ are.1 ≡ first.0 ++ ((first.1 ++ own) ++ rest.0) = ap₂ (λ s t. s ++ t) (sym same) rest.1 in
+        let parts : first.0 ++ ((first.1 ++ own) ++ rest.0) ≡ ((first.0 ++ first.1) ++ own) ++ rest.0 =
+        sym (append_assoc first.0 (first.1 ++ own) rest.0) ∙ ap (λ s. s ++ rest.0) (sym (append_assoc first.0 first.1 own)) in
+        (rest.0, are.2 ∙ whole ∙ parts ∙ ap (λ s. (s ++ own) ++ rest.0) (sym first.2))

@@ -1,7 +1,9 @@
 -- What the values among the steps of a scenario in short form come to.
-use Rattle.std.proofs.Common.{◌≡◌, ◌≢◌, ◌∙◌, ◌+◌, ◌-◌, ◌<◌, ◌≤◌, ◌++◌, ◌∷◌, ℕ, zero, suc, List, [], None, Some, ap, ap₂, append_assoc, arith, codes, decimal, get_or, inl, inr, length, length-append, map, refl, sym, take}
+use Rattle.std.proofs.Common.{◌≡◌, ◌≢◌, ◌∙◌, ◌+◌, ◌*◌, ◌-◌, ◌<◌, ◌≤◌, ◌++◌, ◌∷◌, ℕ, zero, suc, List, [], None, Some, ap, ap₂, append_assoc, arith, codes, decimal, get_or, inl, inr, length, length-append, map, refl, subst, sum_by, sym, take}
 use Rattle.std.proofs.lemmas.List.{append-nil, append_cancel_left, get_or-map, length-map, length-take-le, map-append, take-map, take_more}
+use Rattle.std.proofs.lemmas.List.Sums.{sum_by-append}
 use Rattle.std.proofs.lemmas.Fmt.{decimal_injective}
+use Rattle.std.proofs.Math.Nat.{suc-mul}
 use Rattle.std.specs.List.{repeat}
 use Rattle.serde_json.specs.Data.{Data, Items, null, boolean, number, string, array, object}
 use Rattle.serde_json.specs.Find.{as_str}
@@ -9,10 +11,12 @@ use Rattle.serde_json.specs.View.{items_of, view}
 use Rattle.serde_json.specs.declared.value.Value.{Value}
 use Rattle.scenario_file.proofs.Objects.{same_items}
 use Rattle.expansion.specs.declared.short.ShortStep.{ShortStep}
+use Rattle.expansion.specs.declared.short.Total.{Total}
 use Rattle.expansion.specs.EachInTurn.{OfEach}
-use Rattle.expansion.specs.ShortSteps.{Short, AsItStands, Settles, short_step}
+use Rattle.expansion.specs.Inner.Totals.{IsCounted, IsTotal}
+use Rattle.expansion.specs.ShortSteps.{Short, AsItStands, Settles, line_bytes, short_step}
 use Rattle.expansion.specs.Shorts.{AreFew, AreSteps, ComesTo, IsOneStep, IsRepeat, IsShortLine}
-use Rattle.expansion.proofs.EachInTurn.{no_less_of_each, of_one, of_one_more, same_of_each}
+use Rattle.expansion.proofs.EachInTurn.{begins_of_each, of_one, of_one_more, same_of_each}
 
 -- ---- one value
 
@@ -144,17 +148,22 @@ none_at depth list i v lt is none steps are =
     let one = of_one (ComesTo depth) (map view list) i (view v) steps are.0 (omega (arith, length-map list view)) (at_place list i v lt is) in
     none one.0 one.1
 
--- nor where the first ones and the next come to too many
+-- ---- few steps
+
+pub few_front : (front rest : List Short) → AreFew (front ++ rest) → AreFew front
+few_front front rest few = record {
+  count = omega (arith, length-append front rest, few.count);
+  bytes = omega (arith, sum_by-append line_bytes front rest, few.bytes);
+}
+
+-- where the first ones and the next come to too many, the list comes to nothing
 pub too_many : (depth : ℕ) (list : List Value) (i : ℕ) (v : Value) (front own : List Short) → i < length list → v ≡ get_or list i v
-    → OfEach (ComesTo depth) (map view (take i list)) front → ComesTo depth (view v) own → 1_000_000 < length front + length own
+    → OfEach (ComesTo depth) (map view (take i list)) front → ComesTo depth (view v) own → ¬ AreFew (front ++ own)
     → (steps : List Short) → ¬ AreSteps depth (map view list) steps
 too_many depth list i v front own lt is first comes many steps are =
     let before : OfEach (ComesTo depth) (take i (map view list)) front = rw (take-map view i list) first in
-    let less = no_less_of_each (ComesTo depth) (comes_once depth) (map view list) i (view v) front own steps before comes are.0 (omega (arith, length-map list view)) (at_place list i v lt is) in
-    omega (arith, less, are.1, many)
-
-pub few_of : (steps : List ShortStep) → length steps ≤ 1_000_000 → AreFew (map short_step steps)
-few_of steps few = omega (arith, length-map steps short_step)
+    let all = begins_of_each (ComesTo depth) (comes_once depth) (map view list) i (view v) front own steps before comes are.0 (omega (arith, length-map list view)) (at_place list i v lt is) in
+    many (few_front (front ++ own) all.0 (subst AreFew all.1 are.1))
 
 -- ---- copies
 
@@ -173,19 +182,60 @@ pub repeat_none : (n : ℕ) → repeat {A = Short} n [] ≡ []
 repeat_none zero = refl
 repeat_none (suc n) = repeat_none n
 
-pub repeat_less : (n m : ℕ) (xs : List Short) → n < m → length (repeat n xs) + length xs ≤ length (repeat m xs)
-repeat_less n zero xs lt = absurd (omega arith)
-repeat_less zero (suc m) xs lt = let e = length-append xs (repeat m xs) in omega (arith, e)
-repeat_less (suc n) (suc m) xs lt =
-    let rest = repeat_less n m xs (omega arith) in
-    let one = length-append xs (repeat n xs) in
-    let other = length-append xs (repeat m xs) in
-    omega (arith, rest, one, other)
+-- how many they are, and how long their lines
+repeat_length : (n : ℕ) (xs : List Short) → length (repeat n xs) ≡ n * length xs
+repeat_length zero xs = omega arith
+repeat_length (suc n) xs = let one = length-append xs (repeat n xs) in let rest = repeat_length n xs in omega (arith, one, rest, suc-mul n (length xs))
 
--- so many are there, where these are put behind those
-pub put_count : (new old : List ShortStep) (own : List Short) → map short_step new ≡ map short_step old ++ own → length new ≡ length old + length own
-put_count new old own put =
-    sym (length-map new short_step) ∙ ap length put ∙ length-append (map short_step old) own ∙ ap (λ n. n + length own) (length-map old short_step)
+repeat_bytes : (n : ℕ) (xs : List Short) → sum_by line_bytes (repeat n xs) ≡ n * sum_by line_bytes xs
+repeat_bytes zero xs = omega arith
+repeat_bytes (suc n) xs =
+    let one = sum_by-append line_bytes xs (repeat n xs) in
+    let rest = repeat_bytes n xs in
+    omega (arith, one, rest, suc-mul n (sum_by line_bytes xs))
+
+-- those that are not repeated make no difference
+repeat_same : (n : ℕ) (xs ys : List Short) → (0 < n → xs ≡ ys) → repeat n xs ≡ repeat n ys
+repeat_same zero xs ys same = refl
+repeat_same (suc n) xs ys same = ap (repeat (suc n)) (same (omega arith))
+
+-- ---- what a list comes to, behind which another is put so many times
+
+all_length : (total own : Total) (n : ℕ) (before steps : List Short) → IsCounted before total → IsCounted steps own
+    → length (before ++ repeat n steps) ≡ total.count + n * own.count
+all_length total own n before steps is of =
+    let all = length-append before (repeat n steps) in
+    let more : length (repeat n steps) ≡ n * own.count = repeat_length n steps ∙ ap (λ k. n * k) (sym of.count) in
+    omega (arith, all, more, is.count)
+
+all_bytes : (total own : Total) (n : ℕ) (before steps : List Short) → IsCounted before total → IsCounted steps own
+    → sum_by line_bytes (before ++ repeat n steps) ≡ total.bytes + n * own.bytes
+all_bytes total own n before steps is of =
+    let all = sum_by-append line_bytes before (repeat n steps) in
+    let more : sum_by line_bytes (repeat n steps) ≡ n * own.bytes = repeat_bytes n steps ∙ ap (λ k. n * k) (sym of.bytes) in
+    omega (arith, all, more, is.bytes)
+
+pub too_many_steps : (total own : Total) (n : ℕ) (before steps : List Short) → IsCounted before total → IsCounted steps own → 1_000_000 < total.count + n * own.count
+    → ¬ AreFew (before ++ repeat n steps)
+too_many_steps total own n before steps is of many few = let all = all_length total own n before steps is of in omega (arith, all, many, few.count)
+
+pub too_many_bytes : (total own : Total) (n : ℕ) (before steps : List Short) → IsCounted before total → IsCounted steps own → 33_554_432 < total.bytes + n * own.bytes
+    → ¬ AreFew (before ++ repeat n steps)
+too_many_bytes total own n before steps is of many few = let all = all_bytes total own n before steps is of in omega (arith, all, many, few.bytes)
+
+pub put_behind : (total own new : Total) (n : ℕ) (Kept : Type 0) (before steps : List Short) → IsTotal (Kept × (0 < n)) steps own → IsTotal Kept before total
+    → (new.count ≡ total.count + n * own.count) × (new.count ≤ 1_000_000) → (new.bytes ≡ total.bytes + n * own.bytes) × (new.bytes ≤ 33_554_432)
+    → (Kept → map short_step new.steps.items ≡ map short_step total.steps.items ++ repeat n (map short_step own.steps.items))
+    → AreFew (before ++ repeat n steps) × IsTotal Kept (before ++ repeat n steps) new
+put_behind total own new n Kept before steps of is count bytes put =
+    let long = all_length total own n before steps is.0 of.0 in
+    let wide = all_bytes total own n before steps is.0 of.0 in (
+      record { count = omega (arith, long, count.0, count.1); bytes = omega (arith, wide, bytes.0, bytes.1) },
+      (
+        record { count = count.0 ∙ sym long; bytes = bytes.0 ∙ sym wide },
+        λ kept. put kept ∙ ap₂ (λ s t. s ++ t) (is.1 kept) (repeat_same n _ steps (λ some. of.1 (kept, some))),
+      ),
+    )
 
 -- one more copy behind the others
 pub put_more : (list : List ShortStep) (i : ℕ) (step : ShortStep) (old mid new : List Short) → i < length list → step ≡ get_or list i step
@@ -194,9 +244,6 @@ put_more list i step old mid new lt is was put =
     let taken : take (i + 1) list ≡ take i list ++ step ∷ [] = take_more list i step lt ∙ ap (λ x. take i list ++ x ∷ []) (sym is) in
     rw (taken, map-append short_step (take i list) (step ∷ []))
     (put ∙ ap (λ s. s ++ short_step step ∷ []) was ∙ append_assoc old (map short_step (take i list)) (short_step step ∷ []))
-
-pub taken_count : (list : List ShortStep) (i : ℕ) → i < length list → length (map short_step (take i list)) ≡ i
-taken_count list i lt = length-map (take i list) short_step ∙ length-take-le i list (omega arith)
 
 pub none_there : (steps : List ShortStep) → length steps ≡ 0 → steps ≡ []
 none_there [] none = refl

@@ -1,5 +1,5 @@
 -- The steps of a scenario in short form.
-use Rattle.std.specs.Prelude.{◌*◌, ℕ, List, Option, string_bytes, unwrap_or}
+use Rattle.std.specs.Prelude.{◌*◌, ℕ, List, Option, length, string_bytes, unwrap_or}
 use Rattle.expansion.specs.declared.short.ShortStep.{ShortStep}
 use Rattle.expansion.specs.declared.short.ShortStep.TheVariants.{Plain, Settle}
 
@@ -21,3 +21,8 @@ most_at_once = 65
 abbrev pub most_lines : Short → ℕ
 most_lines (AsItStands line) = 1
 most_lines (Settles count) = unwrap_or count 1000 * most_at_once
+
+-- how many bytes the line of a step has that is taken as it stands
+abbrev pub line_bytes : Short → ℕ
+line_bytes (AsItStands line) = length line
+line_bytes (Settles count) = 0

@@ -1,5 +1,5 @@
 -- Which text is a scenario in short form.
-use Rattle.std.specs.Prelude.{◌≡◌, ◌⊎◌, ◌<◌, ◌≤◌, ◌^◌, ◌++◌, ℕ, zero, suc, List, [], ◌∷◌, None, Some, codes, decimal, length, map}
+use Rattle.std.specs.Prelude.{◌≡◌, ◌⊎◌, ◌<◌, ◌≤◌, ◌^◌, ◌++◌, ℕ, zero, suc, List, [], ◌∷◌, None, Some, codes, decimal, length, map, sum_by}
 use Rattle.std.specs.List.{repeat}
 use Rattle.serde_json.specs.Data.{Data, Items, string}
 use Rattle.serde_json.specs.Read.{read}
@@ -7,7 +7,7 @@ use Rattle.serde_json.specs.View.{items_of}
 use Rattle.scenario_file.specs.Objects.{AreNodes, HasKeys, HasSettings, HasSingleKeys, list_at, whole_number_at}
 use Rattle.expansion.specs.declared.short.ShortScenario.{ShortScenario}
 use Rattle.expansion.specs.EachInTurn.{OfEach}
-use Rattle.expansion.specs.ShortSteps.{Short, AsItStands, Settles, short_step}
+use Rattle.expansion.specs.ShortSteps.{Short, AsItStands, Settles, line_bytes, short_step}
 
 -- the line of a `settle`, with a number or without, or of what begins as one
 abbrev pub BeginsAsSettle : List ℕ → Type 0
@@ -36,9 +36,10 @@ pub record IsRepeat (d : Data) (times : ℕ) (items : Items) : Type 0 where
   pub number : whole_number_at (codes "repeat") d ≡ Some times
   pub list : list_at (codes "steps") d ≡ Some items
 
--- so few as a scenario may have once it is expanded
-abbrev pub AreFew : List Short → Type 0
-AreFew steps = length steps ≤ 1_000_000
+-- so few as a scenario may have once it is expanded, with lines so short together
+pub record AreFew (steps : List Short) : Type 0 where
+  pub count : length steps ≤ 1_000_000
+  pub bytes : sum_by line_bytes steps ≤ 33_554_432
 
 -- the steps of a list, of which there are few, so many times
 pub record IsRepeated (One : Data → List Short → Type 0) (d : Data) (steps : List Short) : Type 0 where

@@ -62,7 +62,7 @@ fn meant_by(alloc: Global, word: &str) -> Result<Option<&'static str>, NoMemory>
     let mut least = SLIPS + 1;
     let mut meant = None;
     for verb in VERBS {
-        if word.len() > verb.len() + SLIPS {
+        if word.len() > verb.len() + SLIPS || verb.len() > word.len() + SLIPS {
             continue;
         }
         let slips = osa_distance(alloc, word, verb)?;

@@ -3,69 +3,55 @@ use crate::wrong::{TextPosition, Wrong};
 use json::{Reader, Scratch, Token};
 use rows::NoMemory;
 use std::alloc::Global;
+use std::collections::BTreeMap;
 
-// A key of an object that is not ended yet, and where in the text it begins.
-#[derive(Drop)]
-struct Key {
-    name: String,
-    start: usize,
-}
-
-// The keys of the objects that are not ended, the outermost first.
-#[derive(Drop)]
-struct OpenKeys {
-    keys: Vec<Key>,
-    // Of each object how many keys stand before its own.
-    objects: Vec<usize>,
-}
-
-impl OpenKeys {
-    // Where the key of this name begins that the innermost object has.
-    fn find(&self, name: &str) -> Option<usize> {
-        let before = self.objects.last().copied().unwrap_or(0);
-        for key in self.keys.get(before..)? {
-            if key.name.as_str() == name {
-                return Some(key.start);
-            }
-        }
-        None
-    }
-
-    // An object ends, and its keys with it.
-    fn end_object(&mut self) {
-        let before = self.objects.pop().unwrap_or(0);
-        self.keys.truncate(before);
-    }
-}
+// The keys of an object that is not ended, and where in the text each begins. There may be as many as
+// a text has room for, so none is looked for one by one.
+type Keys = BTreeMap<String, usize>;
 
 /// The first key that its object has had already, and where both stand; none in a text without one.
 /// A text that is no JSON is looked at as far as it is.
 pub(crate) fn key_twice(alloc: Global, text: &str) -> Result<Option<Wrong>, NoMemory> {
     let mut scratch = Scratch::new(alloc);
     let mut reader = Reader::new(text, &mut scratch)?;
-    let mut open = OpenKeys {
-        keys: Vec::new(alloc),
-        objects: Vec::new(alloc),
-    };
+    // Of the objects that are not ended, the outermost first.
+    let mut open: Vec<Keys> = Vec::new(alloc);
     // A text has no more tokens than bytes.
     for _ in 0..=text.len() {
         let before = reader.offset();
         match reader.next() {
-            Some(Token::BeginObject) => open.objects.push(open.keys.len())?,
-            Some(Token::EndObject) => open.end_object(),
+            Some(Token::BeginObject) => open.push(BTreeMap::new(alloc))?,
+            Some(Token::EndObject) => drop(open.pop()),
             Some(Token::Key(name)) => {
                 let start = quote_from(text, before);
-                let key = String::from_str(alloc, name)?;
-                if let Some(first) = open.find(key.as_str()) {
+                if let Some(first) = had(alloc, &mut open, name, start)? {
+                    let key = String::from_str(alloc, name)?;
                     let (first, second) = (position_of(text, first), position_of(text, start));
                     return Ok(Some(Wrong::KeyTwice(key, first, second)));
                 }
-                open.keys.push(Key { name: key, start })?;
             }
             Some(Token::Bad) | None => return Ok(None),
             Some(_) => {}
         }
     }
+    Ok(None)
+}
+
+// Where the key of this name begins that the innermost object has had; else it has this one, which
+// begins there.
+fn had(
+    alloc: Global,
+    open: &mut [Keys],
+    name: &str,
+    start: usize,
+) -> Result<Option<usize>, NoMemory> {
+    let Some(keys) = open.last_mut() else {
+        return Ok(None);
+    };
+    if let Some(first) = keys.get(name) {
+        return Ok(Some(*first));
+    }
+    keys.insert(String::from_str(alloc, name)?, start)?;
     Ok(None)
 }
 

@@ -1,12 +1,12 @@
-use Rattle.std.proofs.Common.{◌≡◌, ◌≢◌, ◌-◌, ◌<◌, ◌≤◌, ◌∷◌, [], Err, arith, inl, inr, length, map, refl, rules}
+use Rattle.std.proofs.Common.{◌≡◌, ◌≢◌, ◌-◌, ◌<◌, ◌≤◌, ◌++◌, ◌∷◌, [], Err, IsTrue, List, arith, inl, inr, length, map, refl, rules}
 use Rattle.std.specs.List.{repeat}
-use Rattle.std.proofs.lemmas.List.{length-map}
 use Rattle.serde_json.specs.View.{items_view, view}
 use Rattle.expansion.specs.declared.short.Part.TheVariants.{Step, Repeat}
 use Rattle.expansion.specs.Inner.Parts.{IsPartOf}
-use Rattle.expansion.specs.ShortSteps.{short_step}
+use Rattle.expansion.specs.Inner.Totals.{IsTotal}
+use Rattle.expansion.specs.ShortSteps.{Short, short_step}
 use Rattle.expansion.specs.Shorts.{AreSteps}
-use Rattle.expansion.proofs.Shorts.{few_of, line_comes, list_comes, next_comes, none_at, none_deeper, repeat_comes, too_many}
+use Rattle.expansion.proofs.Shorts.{line_comes, list_comes, next_comes, none_at, none_deeper, repeat_comes, too_many}
 use Rattle.expansion.proofs.short.+short_steps.Goals as goal
 use Rattle.expansion.proofs.short.+short_steps.Goals.{in-Step+in_ok-put_one-in-Step, in-Repeat+else-depth-eq0+in_ok-own-in-Repeat+in_ok-put_repeated-in-Repeat}
 
@@ -16,23 +16,31 @@ loop-value-preserved t c =
     let i = c.loop-value.value-index in
     let v = c.value-item.result in
     let inside : i < length list = search rules in
+    let front = c.loop-value.invariant.0 in
+    let are = c.loop-value.invariant.1 in
+    let is = c.loop-value.invariant.2 in
     elim c.match-branch-2.branch [
       | in-Step+in_ok-put_one-in-Step w ↦
           let part : IsPartOf (view v) (Step w.in-Step.step) = rw w.in-Step.is at c.in_ok-step.ensures.ok in
-          let put = w.in_ok-put_one-in-Step.ensures in
-          rw w.steps-is
-          (next_comes c.args.depth list i v _ _ _ inside c.value-item.is c.loop-value.invariant.0
-          (line_comes c.args.depth (view v) part.0 (short_step w.in-Step.step) part.1 part.2) put.put (few_of _ put.most))
+          let put = w.in_ok-put_one-in-Step.ensures.put front is in
+          let one = short_step w.in-Step.step in
+          rw w.total-is (
+            front ++ one ∷ [],
+            next_comes c.args.depth list i v front (one ∷ []) _ inside c.value-item.is are.0 (line_comes c.args.depth (view v) part.0 one part.1 part.2) refl put.0,
+            put.1,
+          )
       | in-Repeat+else-depth-eq0+in_ok-own-in-Repeat+in_ok-put_repeated-in-Repeat w ↦
           let part : IsPartOf (view v) (Repeat w.in-Repeat.times w.in-Repeat.list) = rw w.in-Repeat.is at c.in_ok-step.ensures.ok in
-          let put = w.in_ok-put_repeated-in-Repeat.ensures in
           let deep : c.args.depth ≢ 0 = search rules in
-          let own : AreSteps (c.args.depth - 1) (map view w.in-Repeat.list.now.items) (map short_step w.in_ok-own-in-Repeat.own.items) = rw w.deref.ensures.value at w.in_ok-own-in-Repeat.ensures.ok in
-          let few : length c.loop-value.steps.items ≤ 1_000_000 = let all = c.loop-value.invariant.1 in omega (arith, all, length-map c.loop-value.steps.items short_step) in
-          rw w.steps-is
-          (next_comes c.args.depth list i v _ _ _ inside c.value-item.is c.loop-value.invariant.0
-          (repeat_comes c.args.depth (view v) w.in-Repeat.times (map view w.in-Repeat.list.now.items) _ deep part own)
-          (rw w.deref-in-Repeat.ensures.value at put.put) (few_of _ (put.most few)))
+          let own = rw w.deref.ensures.value at w.in_ok-own-in-Repeat.ensures.ok in
+          let of : IsTotal (IsTrue c.args.kept × (0 < w.in-Repeat.times)) own.0 w.in_ok-own-in-Repeat.own = (own.2.0, λ kept. own.2.1 (w.are_kept.ensures.1 kept)) in
+          let put = w.in_ok-put_repeated-in-Repeat.ensures.put own.0 of front is in
+          rw w.total-is (
+            front ++ repeat w.in-Repeat.times own.0,
+            next_comes c.args.depth list i v front (repeat w.in-Repeat.times own.0) _ inside c.value-item.is are.0
+                (repeat_comes c.args.depth (view v) w.in-Repeat.times (map view w.in-Repeat.list.now.items) own.0 deep part own.1) refl put.0,
+            put.1,
+          )
     ]
 
 pub returns-in_err-step-clause-refused : goal.returns-in_err-step-clause-refused
@@ -55,14 +63,14 @@ returns-in_err-put_one-in-Step-clause-refused t c =
     let inside : i < length list = search rules in
     let part : IsPartOf (view v) (Step c.in-Step.step) = rw c.in-Step.is at c.in_ok-step.ensures.ok in
     let one = short_step c.in-Step.step in
-    let front = map short_step c.loop-value.steps.items in
+    let front = c.loop-value.invariant.0 in
     let same : c.from_residual-in_err-put_one-in-Step.result ≡ Err c.in_err-put_one-in-Step.field-0.0 = search rules in
     rw same (elim c.in_err-put_one-in-Step.ensures.refused [
       | inl memory ↦ inl memory
       | inr many ↦ inr (
         many.0,
-        too_many c.args.depth list i v front (one ∷ []) inside c.value-item.is c.loop-value.invariant.0 (line_comes c.args.depth (view v) part.0 one part.1 part.2)
-            (omega (arith, many.1, length-map c.loop-value.steps.items short_step)),
+        too_many c.args.depth list i v front (one ∷ []) inside c.value-item.is c.loop-value.invariant.1.0 (line_comes c.args.depth (view v) part.0 one part.1 part.2)
+            (many.1 front c.loop-value.invariant.2.0),
       )
     ])
 
@@ -106,17 +114,16 @@ returns-in_err-put_repeated-in-Repeat-clause-refused t c =
     let inside : i < length list = search rules in
     let part : IsPartOf (view v) (Repeat c.in-Repeat.times c.in-Repeat.list) = rw c.in-Repeat.is at c.in_ok-step.ensures.ok in
     let deep : c.args.depth ≢ 0 = search rules in
-    let ds = map view c.in-Repeat.list.now.items in
-    let own = map short_step c.in_ok-own-in-Repeat.own.items in
-    let are : AreSteps (c.args.depth - 1) ds own = rw c.deref.ensures.value at c.in_ok-own-in-Repeat.ensures.ok in
-    let front = map short_step c.loop-value.steps.items in
+    let own = rw c.deref.ensures.value at c.in_ok-own-in-Repeat.ensures.ok in
+    let of : IsTotal (IsTrue c.args.kept × (0 < c.in-Repeat.times)) own.0 c.in_ok-own-in-Repeat.own = (own.2.0, λ kept. own.2.1 (c.are_kept.ensures.1 kept)) in
+    let front = c.loop-value.invariant.0 in
     let same : c.from_residual-in_err-put_repeated-in-Repeat.result ≡ Err c.in_err-put_repeated-in-Repeat.field-0.0 = search rules in
-    rw same (elim (rw c.deref-in-Repeat.ensures.value at c.in_err-put_repeated-in-Repeat.ensures.refused) [
+    rw same (elim (c.in_err-put_repeated-in-Repeat.ensures.refused own.0 of) [
       | inl memory ↦ inl memory
       | inr many ↦ inr (
         many.0,
-        too_many c.args.depth list i v front (repeat c.in-Repeat.times own) inside c.value-item.is c.loop-value.invariant.0
-            (repeat_comes c.args.depth (view v) c.in-Repeat.times ds own deep part are)
-            (omega (arith, many.1, length-map c.loop-value.steps.items short_step)),
+        too_many c.args.depth list i v front (repeat c.in-Repeat.times own.0) inside c.value-item.is c.loop-value.invariant.1.0
+            (repeat_comes c.args.depth (view v) c.in-Repeat.times (map view c.in-Repeat.list.now.items) own.0 deep part own.1)
+            (many.1 front c.loop-value.invariant.2.0),
       )
     ])

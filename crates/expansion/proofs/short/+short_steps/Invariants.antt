@@ -1,6 +1,7 @@
-use Rattle.std.proofs.Common.{map, take}
+use Rattle.std.proofs.Common.{IsTrue, List, map, take}
 use Rattle.serde_json.specs.View.{view}
-use Rattle.expansion.specs.ShortSteps.{short_step}
+use Rattle.expansion.specs.Inner.Totals.{IsTotal}
+use Rattle.expansion.specs.ShortSteps.{Short}
 use Rattle.expansion.specs.Shorts.{AreSteps}
 use Rattle.expansion.proofs.short.+short_steps.Given as goal
 
@@ -9,4 +10,4 @@ decreases-short_steps l = l.depth
 
 -- the values so far come to the steps so far
 abbrev pub invariant-loop-value : goal.invariant-loop-value
-invariant-loop-value l = AreSteps l.depth (map view (take l.value-index l.list)) (map short_step l.steps.items)
+invariant-loop-value l = (steps : List Short) × AreSteps l.depth (map view (take l.value-index l.list)) steps × IsTotal (IsTrue l.kept) steps l.total

@@ -1,10 +1,10 @@
-use Rattle.std.proofs.Common.{◌≡◌, ◌≤◌, ◌++◌, length, map, take}
+use Rattle.std.proofs.Common.{◌≡◌, ◌++◌, map}
+use Rattle.std.specs.Vec.Iter.{into_iter_items}
 use Rattle.expansion.specs.ShortSteps.{short_step}
 use Rattle.expansion.proofs.short.put_all.Given as goal
 
--- copies of those so far are put
+-- those so far are put
 abbrev pub invariant-loop-step : goal.invariant-loop-step
-invariant-loop-step l = record {
-  put : map short_step l.steps.items ≡ map short_step l.fn.steps.items ++ map short_step (take l.step-index l.own);
-  most : length l.fn.steps.items ≤ 1_000_000 → length l.steps.items ≤ 1_000_000;
-}
+invariant-loop-step l =
+    (l.yielded ++ into_iter_items l.step-iterator ≡ l.fn.own.items)
+    × (map short_step l.steps.items ≡ map short_step l.fn.steps.items ++ map short_step l.yielded)

@@ -1,4 +1,4 @@
-use Rattle.std.proofs.Common.{◌≡◌, Err, inl, inr, map, rules, sym}
+use Rattle.std.proofs.Common.{◌≡◌, Err, inl, inr, map, refl, rules, sym}
 use Rattle.serde_json.specs.View.{items_of, items_view, view}
 use Rattle.scenario_file.proofs.Objects.{same_items}
 use Rattle.expansion.specs.ShortSteps.{short_step}
@@ -8,7 +8,9 @@ pub returns-clause-ok : goal.returns-clause-ok
 returns-clause-ok c = record {
   settings = c.in-Some.ensures;
   nodes = (map view c.in-Some-list_of.nodes.now.items, sym c.in-Some-list_of.ensures, rw c.deref.ensures.value at c.in_ok-nodes.ensures.ok);
-  steps = (map view c.in-Some-list_of-2.steps.now.items, sym c.in-Some-list_of-2.ensures, rw c.deref-2.ensures.value at c.in_ok-steps.ensures.ok);
+  steps =
+      let total = rw c.deref-2.ensures.value at c.in_ok-total.ensures.ok in
+      (map view c.in-Some-list_of-2.steps.now.items, sym c.in-Some-list_of-2.ensures, rw (total.2.1 refl) total.1);
 }
 
 pub returns-in_err-nodes-clause-refused : goal.returns-in_err-nodes-clause-refused
@@ -25,10 +27,10 @@ returns-in_err-nodes-clause-refused c =
       )
     ])
 
-pub returns-in_err-steps-clause-refused : goal.returns-in_err-steps-clause-refused
-returns-in_err-steps-clause-refused c =
-    let same : c.from_residual-in_err-steps.result ≡ Err c.in_err-steps.field-0.0 = search rules in
-    rw same (elim c.in_err-steps.ensures.refused [
+pub returns-in_err-total-clause-refused : goal.returns-in_err-total-clause-refused
+returns-in_err-total-clause-refused c =
+    let same : c.from_residual-in_err-total.result ≡ Err c.in_err-total.field-0.0 = search rules in
+    rw same (elim c.in_err-total.ensures.refused [
       | inl memory ↦ inl memory
       | inr none ↦ inr (
         none.0,
