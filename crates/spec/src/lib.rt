@@ -23,8 +23,8 @@ pub fn every_run_shows_the_spec()
 {}
 
 /// The specification is safe, whatever it does.
-/// - `safe`: what servers have applied is committed; terms never fall; after no first entries of
-///   the log a node is oversubscribed or an allocation name live twice; each plan was appended
+/// - `safe`: what servers have applied is committed; terms never fall; no state after first entries
+///   of the log has a node oversubscribed or an allocation name live twice; each plan was appended
 ///   under its evaluation's outstanding token; and what a client started was placed on its node,
 ///   and started once.
 /// - `stays`: what is committed stays so, and no entry, start or delivery is ever lost.
