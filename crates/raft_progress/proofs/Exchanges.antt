@@ -86,10 +86,16 @@ module _ {S C : Type 0} (m : Meaning S C) (law : LawfulMachine m) (n : ℕ) (Q :
         let limits : Limits l.server = reached_limits m n law w st.reached i l.server l.here in
         let f = leader_facts m n w st.reached i l.server l.next l.match l.here l.mode in
         let g = f.lists in
-        let a = answers m n i less_n l.server (omega (arith, limits.covered, limits.commit)) k peer peer_up (omega (arith, peer_low, l.term))
-        (λ same. alone m n w st.reached i k l.server peer l.next l.match l.here l.mode peer_here other same)
-        (index_at l.match k) (index_at l.next k) (g.gap k less) (leader_next m law n w st.reached i l.server l.next l.match l.here l.mode k less other)
-        (leader_match m law n w st.reached i l.server l.next l.match l.here l.mode k peer less other peer_here (omega (arith, peer_low, l.term))) in
+        let a = answers m n i k l.server peer (index_at l.match k) (index_at l.next k) (record {
+          less_n = less_n;
+          within = omega (arith, limits.covered, limits.commit);
+          up = peer_up;
+          low = omega (arith, peer_low, l.term);
+          lone = λ same. alone m n w st.reached i k l.server peer l.next l.match l.here l.mode peer_here other same;
+          gap = g.gap k less;
+          fits = leader_next m law n w st.reached i l.server l.next l.match l.here l.mode k less other;
+          held = leader_match m law n w st.reached i l.server l.next l.match l.here l.mode k peer less other peer_here (omega (arith, peer_low, l.term));
+        }) in
         elim (a.2) [
           | inl c ↦
               let h = hears_accept m n i l.server l.next l.match l.mode k less c.body c.at c.ack c.within in

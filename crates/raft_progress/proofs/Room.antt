@@ -1,18 +1,18 @@
 -- A run of k events has no term and no index above k.
-use Rattle.std.proofs.Common.{◌≡◌, ◌≢◌, ℕ, zero, suc, ◌+◌, ◌-◌, ◌<◌, ◌≤◌, ◌⊎◌, inl, inr, max, Bool, true, false, ◌||◌, nat_le, Some, Ok, List, [], ◌∷◌, ◌++◌, length, take, drop, refl, sym, ap, ◌∙◌, subst, arith, slice_get}
+use Rattle.std.proofs.Common.{◌≡◌, ◌≢◌, ℕ, zero, suc, ◌+◌, ◌-◌, ◌<◌, ◌≤◌, inl, inr, max, Bool, true, ◌||◌, nat_le, Some, List, [], ◌∷◌, ◌++◌, length, take, drop, refl, sym, ap, subst, arith, slice_get}
 use Rattle.std.proofs.lemmas.Bool.Decides.{leb_tells, eqb_tells}
 use Rattle.std.proofs.lemmas.List.{length-append, length-take}
 use Rattle.machine_model.specs.Meaning.{Meaning}
 use Rattle.machine_model.specs.declared.entry.Entry.{Entry}
-use Rattle.raft_model.specs.Logs.{MAX, has, last_term, merge, install, term_at}
+use Rattle.raft_model.specs.Logs.{MAX, has, last_term, merge, install}
 use Rattle.raft_model.specs.Messages.{Message, Body, VoteRequest, VoteReply, Append, AppendReply, Install, InstallReply, to_others}
-use Rattle.raft_model.specs.Rafts.{Raft, Leader, newcomer, is_leader, stood, vote_request_to, beat_body, beat_message, installed}
-use Rattle.raft_model.specs.Worlds.{World, Event, Run, IsEvent, happens, start, more}
+use Rattle.raft_model.specs.Rafts.{Raft, newcomer, is_leader, stood, vote_request_to, beat_body, beat_message, installed}
+use Rattle.raft_model.specs.Worlds.{World, Event, Run, start, more}
 use Rattle.raft_model.proofs.Cases.{bool_cases}
 use Rattle.raft_safety.specs.Inner.SmallSteps.{WasSent, LedBefore, Small, raises, stands, grants_vote, refuses, counts, wins, extends, follows, takes_append, takes_install, acks, backs, advances, covers, beats_all, OwesNothing, Path, still, only, after_one, Turns, walks, resets}
 use Rattle.raft_safety.proofs.LeaderSteps.{length_take, length_drop}
 use Rattle.raft_safety.proofs.Places.{get_set-cases, get-split, get-one, push_length, replicate-get, to_others_is}
-use Rattle.raft_safety.proofs.Election.{Moves, event_moves}
+use Rattle.raft_safety.proofs.Election.{event_moves}
 use Rattle.raft_safety.proofs.Limits.{run_bounds}
 use Rattle.raft_progress.specs.Recovery.{HasRoom}
 use Rattle.raft_progress.proofs.Moves.{to_others_has}
