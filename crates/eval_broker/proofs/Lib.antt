@@ -1,3 +1,4 @@
+pub mod Heights
 pub mod Splits
 pub mod Orders
 pub mod Listings

@@ -1,4 +1,3 @@
 pub mod Tasks
 pub mod Trees
 pub mod Lists
-pub mod Weights

@@ -3,6 +3,7 @@
 #![tactic(auto)]
 
 mod answers;
+mod balance;
 mod broker;
 mod laws;
 mod lists;

@@ -1,11 +1,10 @@
 //! Rows by key in a tree, with room made beforehand, so that a later put takes no memory.
-ghost use Rattle.std.specs.Prelude.{◌≡◌, ◌≤◌, ◌+◌, [], Some, OnOk, OnErr, IfOk, length, option_map, T as Holds};
+ghost use Rattle.std.specs.Prelude.{◌≡◌, ◌≤◌, ◌+◌, [], OnOk, OnErr, IfOk, length, option_map, T as Holds};
 ghost use Rattle.std.specs.List.{slice_get};
 ghost use Rattle.rows.specs.Rising.{is_rising};
 ghost use Rattle.fsm_tables.specs.Rows.{row_of, put};
 ghost use Rattle.fsm_tables.specs.ReservedTables.{without, has_space};
-ghost use Rattle.eval_broker.specs.Inner.Trees.{tree_rows, chain_length, top_weight};
-ghost use Rattle.eval_broker.specs.Inner.Weights.{weight_at};
+ghost use Rattle.eval_broker.specs.Inner.Trees.{tree_rows, chain_length, levels, IsBalanced};
 
 use crate::tree;
 use crate::tree::{Branch, Tree};
@@ -27,10 +26,10 @@ pub(crate) struct ReservedTree<T: Row + Copy> {
 }
 
 impl<T: Row + Copy> Model for ReservedTree<T> {
-    ghost use Rattle.std.specs.Prelude.{◌≡◌, ◌+◌, length, T as Holds};
+    ghost use Rattle.std.specs.Prelude.{◌≡◌, ◌≤◌, ◌+◌, length, T as Holds};
     ghost use Rattle.rows.specs.Rising.{is_rising};
     ghost use Rattle.fsm_tables.specs.ReservedTables.{Stock};
-    ghost use Rattle.eval_broker.specs.Inner.Trees.{tree_rows, chain_length};
+    ghost use Rattle.eval_broker.specs.Inner.Trees.{tree_rows, chain_length, levels, IsBalanced};
 
     ghost Value = { Stock T };
 
@@ -39,6 +38,8 @@ impl<T: Row + Copy> Model for ReservedTree<T> {
     ghost invariant = { λ a. record {
       rising : Holds (is_rising T.Key.cmp T.key_of (tree_rows a.tree));
       capacity : a.capacity ≡ length (tree_rows a.tree) + chain_length a.spares;
+      balanced : IsBalanced a.tree;
+      levels : levels a.tree ≤ 91;
     } };
 }
 
@@ -68,24 +69,9 @@ fn drop_chain<T: Drop>(spares: Tree<T>) {
     }
 }
 
-/// The weight of the fork that was made at this place, from 0: as if drawn.
-fn weight(place: usize) -> u64
-    ensures { result ≡ weight_at place }
-{
-    let mixed = (place as u64).wrapping_mul(0x9E37_79B9_7F4A_7C15);
-    let mixed = (mixed ^ (mixed >> 32)).wrapping_mul(0xD6E8_FEB8_6659_FD93);
-    mixed ^ (mixed >> 32)
-}
-
 /// One spare fork more, with any row.
-fn add_spare<T: Drop>(
-    alloc: Global,
-    spares: &mut Tree<T>,
-    weight: u64,
-    row: T,
-) -> Result<(), NoMemory>
+fn add_spare<T: Drop>(alloc: Global, spares: &mut Tree<T>, row: T) -> Result<(), NoMemory>
     ensures ok { OnOk result (chain_length spares.new ≡ chain_length spares.old + 1) }
-    ensures weight { OnOk result (top_weight spares.new ≡ Some weight) }
     ensures err { OnErr result (spares.new ≡ spares.old) }
 {
     let mut branch = Box::new(
@@ -93,7 +79,7 @@ fn add_spare<T: Drop>(
         Branch {
             left: Tree::Leaf,
             row,
-            weight,
+            height: 1,
             right: Tree::Leaf,
         },
     )?;
@@ -122,10 +108,13 @@ impl<T: Row + Copy> ReservedTree<T> {
         self.capacity
     }
 
-    /// The tree of the rows.
+    /// The tree of the rows. It has at most 22 levels of 65,536 rows, and never more than 91.
     pub fn tree(&self) -> &Tree<T>
         ensures rows { tree_rows result.now ≡ self.now.rows }
         ensures rising { Holds (is_rising T.Key.cmp T.key_of self.now.rows) }
+        ensures balanced { IsBalanced result.now }
+        ensures levels { levels result.now ≤ 91 }
+        ensures few { length self.now.rows ≤ 65536 → levels result.now ≤ 22 }
     {
         &self.tree
     }
@@ -155,7 +144,7 @@ impl<T: Row + Copy> ReservedTree<T> {
         let Some(capacity) = self.capacity.checked_add(1) else {
             return Err(NoMemory);
         };
-        add_spare(self.alloc, &mut self.spares, weight(self.capacity), any)?;
+        add_spare(self.alloc, &mut self.spares, any)?;
         self.capacity = capacity;
         Ok(())
     }
@@ -193,7 +182,7 @@ impl<T: Row + Copy> ReservedTree<T> {
         ensures rows { self.new.rows ≡ put T.Key.cmp T.key_of row self.old.rows }
         ensures capacity { self.old.capacity ≤ self.new.capacity }
     {
-        tree::put(&mut self.tree, &mut self.spares, row);
+        let _is_higher = tree::put(&mut self.tree, &mut self.spares, row);
     }
 
     /// Takes out the row of the key, if there is one. It takes no memory, and its room stays.
@@ -201,7 +190,7 @@ impl<T: Row + Copy> ReservedTree<T> {
         ensures rows { self.new.rows ≡ without T.Key.cmp T.key_of key.now self.old.rows }
         ensures capacity { self.old.capacity ≤ self.new.capacity }
     {
-        tree::cut(&mut self.tree, &mut self.spares, key);
+        let _is_lower = tree::cut(&mut self.tree, &mut self.spares, key);
     }
 }
 

@@ -1,17 +1,19 @@
-//! Rows in a search tree, whose forks are kept for later rows when theirs go.
-ghost use Rattle.std.specs.Prelude.{◌≡◌, ◌++◌, ◌+◌, ◌||◌, [], ◌∷◌, length, nat_lt, option_map, T as Holds};
+//! Rows in a search tree that is balanced by height, whose forks are kept for later rows when theirs
+//! go.
+ghost use Rattle.std.specs.Prelude.{◌≡◌, ◌<◌, ◌≤◌, ◌++◌, ◌+◌, suc, max, ◌||◌, [], ◌∷◌, length, nat_lt, option_map, IfSome, IfNone, false, T as Holds};
 ghost use Rattle.std.specs.List.{slice_get};
 ghost use Rattle.rows.specs.Rising.{is_rising};
 ghost use Rattle.fsm_tables.specs.Rows.{row_of, has_row, put};
 ghost use Rattle.fsm_tables.specs.ReservedTables.{without};
-ghost use Rattle.eval_broker.specs.Inner.Trees.{tree_rows, chain_length, below_top};
+ghost use Rattle.eval_broker.specs.Inner.Trees.{tree_rows, chain_length, below_top, levels, AreWithin, IsBalanced};
 
+use crate::balance::{balanced, height, rebalance};
 use fsm_tables::Row;
 use std::cmp::Ordering;
 use std::mem;
 
-/// A search tree. A fork's weight is at least those of the forks below it; the weights are as if
-/// drawn, so that the tree is about as high as the logarithm of its rows, whatever they are.
+/// A search tree. It is balanced by height, so that it has at most 22 levels of 65,536 rows, and at
+/// most 91 of as many as a `usize` counts. A call goes at most as deep, and so does a drop.
 #[cycle(tree)]
 #[derive(Drop)]
 pub(crate) enum Tree<T> {
@@ -29,8 +31,8 @@ pub(crate) struct Branch<T> {
     pub left: Tree<T>,
     /// The row.
     pub row: T,
-    /// Where forks are joined, the heavier one is above.
-    pub weight: u64,
+    /// How many levels the tree of this fork has.
+    pub height: u8,
     /// The rows of higher keys.
     pub right: Tree<T>,
 }
@@ -64,77 +66,12 @@ pub(crate) fn get<'a, T: Row>(tree: &'a Tree<T>, key: &T::Key) -> Option<&'a T>
     }
 }
 
-/// One tree of two, the second of which comes behind the first.
-fn join<T: Drop>(left: Tree<T>, right: Tree<T>) -> Tree<T>
-    ensures { tree_rows result ≡ tree_rows left ++ tree_rows right }
-{
-    match left {
-        Tree::Leaf => right,
-        Tree::Fork(mut one) => match right {
-            Tree::Leaf => Tree::Fork(one),
-            Tree::Fork(mut other) => {
-                if one.weight > other.weight {
-                    let inner = mem::replace(&mut one.right, Tree::Leaf);
-                    one.right = join(inner, Tree::Fork(other));
-                    Tree::Fork(one)
-                } else {
-                    let inner = mem::replace(&mut other.left, Tree::Leaf);
-                    other.left = join(Tree::Fork(one), inner);
-                    Tree::Fork(other)
-                }
-            }
-        },
-    }
-}
-
-/// Brings the left side's fork to the top, if it is heavier.
-fn raise_left<T: Drop>(tree: &mut Tree<T>)
-    ensures { tree_rows tree.new ≡ tree_rows tree.old }
-{
-    *tree = match mem::replace(tree, Tree::Leaf) {
-        Tree::Leaf => Tree::Leaf,
-        Tree::Fork(mut top) => match mem::replace(&mut top.left, Tree::Leaf) {
-            Tree::Leaf => Tree::Fork(top),
-            Tree::Fork(mut side) => {
-                if side.weight > top.weight {
-                    top.left = mem::replace(&mut side.right, Tree::Leaf);
-                    side.right = Tree::Fork(top);
-                    Tree::Fork(side)
-                } else {
-                    top.left = Tree::Fork(side);
-                    Tree::Fork(top)
-                }
-            }
-        },
-    };
-}
-
-/// Brings the right side's fork to the top, if it is heavier.
-fn raise_right<T: Drop>(tree: &mut Tree<T>)
-    ensures { tree_rows tree.new ≡ tree_rows tree.old }
-{
-    *tree = match mem::replace(tree, Tree::Leaf) {
-        Tree::Leaf => Tree::Leaf,
-        Tree::Fork(mut top) => match mem::replace(&mut top.right, Tree::Leaf) {
-            Tree::Leaf => Tree::Fork(top),
-            Tree::Fork(mut side) => {
-                if side.weight > top.weight {
-                    top.right = mem::replace(&mut side.left, Tree::Leaf);
-                    side.left = Tree::Fork(top);
-                    Tree::Fork(side)
-                } else {
-                    top.right = Tree::Fork(side);
-                    Tree::Fork(top)
-                }
-            }
-        },
-    };
-}
-
 /// A tree of one row, from a spare fork.
 fn alone<T: Drop>(spares: &mut Tree<T>, row: T) -> Tree<T>
     requires { Holds (nat_lt 0 (chain_length spares.old)) }
     ensures rows { tree_rows result ≡ row ∷ [] }
+    ensures balanced { IsBalanced result }
+    ensures levels { levels result ≡ 1 }
     ensures spare { chain_length spares.old ≡ chain_length spares.new + 1 }
 {
     let Tree::Fork(mut branch) = mem::replace(spares, Tree::Leaf) else {
@@ -142,69 +79,146 @@ fn alone<T: Drop>(spares: &mut Tree<T>, row: T) -> Tree<T>
     };
     *spares = mem::replace(&mut branch.left, Tree::Leaf);
     branch.row = row;
+    branch.height = 1;
     branch.right = Tree::Leaf;
     Tree::Fork(branch)
 }
 
 /// Makes or replaces the row of the key, and changes no other. A row that is made takes a spare
-/// fork.
-pub(crate) fn put<T: Row>(tree: &mut Tree<T>, spares: &mut Tree<T>, row: T)
+/// fork. Tells whether the tree is higher then.
+pub(crate) fn put<T: Row>(tree: &mut Tree<T>, spares: &mut Tree<T>, row: T) -> bool
     requires rising { Holds (is_rising T.Key.cmp T.key_of (tree_rows tree.old)) }
     requires spare { Holds (has_row T.Key.cmp T.key_of (T.key_of row) (tree_rows tree.old)
         || nat_lt 0 (chain_length spares.old)) }
+    requires balanced { IsBalanced tree.old }
+    requires low { levels tree.old < 98 }
     ensures rows { tree_rows tree.new ≡ put T.Key.cmp T.key_of row (tree_rows tree.old) }
     ensures kept { length (tree_rows tree.new) + chain_length spares.new
         ≡ length (tree_rows tree.old) + chain_length spares.old }
+    ensures balanced { IsBalanced tree.new }
+    ensures least { levels tree.old ≤ levels tree.new }
+    ensures most { levels tree.new ≤ suc (levels tree.old) }
+    ensures same { result ≡ false → levels tree.new ≡ levels tree.old }
 {
     match tree {
         Tree::Leaf => {
             *tree = alone(spares, row);
+            true
         }
         Tree::Fork(branch) => match row.key().cmp(branch.row.key()) {
             Ordering::Less => {
-                put(&mut branch.left, spares, row);
-                raise_left(tree);
+                let has_changed = put(&mut branch.left, spares, row);
+                rebalance(tree, has_changed)
             }
             Ordering::Equal => {
                 branch.row = row;
+                false
             }
             Ordering::Greater => {
-                put(&mut branch.right, spares, row);
-                raise_right(tree);
+                let has_changed = put(&mut branch.right, spares, row);
+                rebalance(tree, has_changed)
             }
         },
     }
 }
 
-/// Takes out the topmost row. Its fork joins the spare ones.
-fn cut_top<T: Drop>(tree: &mut Tree<T>, spares: &mut Tree<T>)
-    ensures rows { tree_rows tree.new ≡ below_top tree.old }
-    ensures kept { length (tree_rows tree.new) + chain_length spares.new
-        ≡ length (tree_rows tree.old) + chain_length spares.old }
+/// Takes out the fork of the first row, if there is one.
+fn cut_first<T: Drop>(tree: &mut Tree<T>) -> Option<Box<Branch<T>>>
+    requires balanced { IsBalanced tree.old }
+    requires low { levels tree.old < 98 }
+    ensures some { IfSome result (λ fork.
+        tree_rows tree.old ≡ fork.value.row ∷ tree_rows tree.new) }
+    ensures none { IfNone result ((tree_rows tree.old ≡ []) × (levels tree.old ≡ 0)) }
+    ensures balanced { IsBalanced tree.new }
+    ensures least { levels tree.old ≤ suc (levels tree.new) }
+    ensures most { levels tree.new ≤ levels tree.old }
 {
-    if let Tree::Fork(mut branch) = mem::replace(tree, Tree::Leaf) {
-        let left = mem::replace(&mut branch.left, Tree::Leaf);
-        let right = mem::replace(&mut branch.right, Tree::Leaf);
-        *tree = join(left, right);
-        branch.left = mem::replace(spares, Tree::Leaf);
-        *spares = Tree::Fork(branch);
+    let Tree::Fork(mut top) = mem::replace(tree, Tree::Leaf) else {
+        return None;
+    };
+    let before = height(&top.left);
+    match cut_first(&mut top.left) {
+        None => {
+            *tree = mem::replace(&mut top.right, Tree::Leaf);
+            Some(top)
+        }
+        Some(first) => {
+            let has_changed = height(&top.left) != before;
+            *tree = Tree::Fork(top);
+            let _is_lower = rebalance(tree, has_changed);
+            Some(first)
+        }
     }
 }
 
-/// Takes out the row of the key, if there is one. Its fork joins the spare ones.
-pub(crate) fn cut<T: Row>(tree: &mut Tree<T>, spares: &mut Tree<T>, key: &T::Key)
-    requires { Holds (is_rising T.Key.cmp T.key_of (tree_rows tree.old)) }
+/// One tree of two, the second of which comes behind the first.
+fn join<T: Drop>(left: Tree<T>, mut right: Tree<T>) -> Tree<T>
+    requires left { IsBalanced left }
+    requires right { IsBalanced right }
+    requires near { AreWithin 1 left right }
+    requires low { levels left < 97 }
+    ensures rows { tree_rows result ≡ tree_rows left ++ tree_rows right }
+    ensures balanced { IsBalanced result }
+    ensures least { max (levels left) (levels right) ≤ levels result }
+    ensures most { levels result ≤ suc (max (levels left) (levels right)) }
+{
+    match cut_first(&mut right) {
+        None => left,
+        Some(first) => balanced(first, left, right),
+    }
+}
+
+/// Takes out the topmost row. Its fork joins the spare ones. Tells whether the tree is lower then.
+fn cut_top<T: Drop>(tree: &mut Tree<T>, spares: &mut Tree<T>) -> bool
+    requires balanced { IsBalanced tree.old }
+    requires low { levels tree.old < 98 }
+    ensures rows { tree_rows tree.new ≡ below_top tree.old }
+    ensures kept { length (tree_rows tree.new) + chain_length spares.new
+        ≡ length (tree_rows tree.old) + chain_length spares.old }
+    ensures balanced { IsBalanced tree.new }
+    ensures least { levels tree.old ≤ suc (levels tree.new) }
+    ensures most { levels tree.new ≤ levels tree.old }
+    ensures same { result ≡ false → levels tree.new ≡ levels tree.old }
+{
+    let Tree::Fork(mut branch) = mem::replace(tree, Tree::Leaf) else {
+        return false;
+    };
+    let before = branch.height;
+    let left = mem::replace(&mut branch.left, Tree::Leaf);
+    let right = mem::replace(&mut branch.right, Tree::Leaf);
+    *tree = join(left, right);
+    branch.left = mem::replace(spares, Tree::Leaf);
+    *spares = Tree::Fork(branch);
+    height(tree) != before
+}
+
+/// Takes out the row of the key, if there is one. Its fork joins the spare ones. Tells whether the
+/// tree is lower then.
+pub(crate) fn cut<T: Row>(tree: &mut Tree<T>, spares: &mut Tree<T>, key: &T::Key) -> bool
+    requires rising { Holds (is_rising T.Key.cmp T.key_of (tree_rows tree.old)) }
+    requires balanced { IsBalanced tree.old }
+    requires low { levels tree.old < 98 }
     ensures rows { tree_rows tree.new
         ≡ without T.Key.cmp T.key_of key.now (tree_rows tree.old) }
     ensures kept { length (tree_rows tree.new) + chain_length spares.new
         ≡ length (tree_rows tree.old) + chain_length spares.old }
+    ensures balanced { IsBalanced tree.new }
+    ensures least { levels tree.old ≤ suc (levels tree.new) }
+    ensures most { levels tree.new ≤ levels tree.old }
+    ensures same { result ≡ false → levels tree.new ≡ levels tree.old }
 {
     match tree {
-        Tree::Leaf => {}
+        Tree::Leaf => false,
         Tree::Fork(branch) => match key.cmp(branch.row.key()) {
-            Ordering::Less => cut(&mut branch.left, spares, key),
+            Ordering::Less => {
+                let has_changed = cut(&mut branch.left, spares, key);
+                rebalance(tree, has_changed)
+            }
             Ordering::Equal => cut_top(tree, spares),
-            Ordering::Greater => cut(&mut branch.right, spares, key),
+            Ordering::Greater => {
+                let has_changed = cut(&mut branch.right, spares, key);
+                rebalance(tree, has_changed)
+            }
         },
     }
 }

@@ -1,10 +1,10 @@
-use Rattle.std.proofs.Common.{◌≡◌, ◌++◌, ◌∷◌, true, false, cond, Some, None, length, length-append, T, sym, ap, subst, ◌∙◌, arith, rules}
-use Rattle.std.specs.Prelude.{bytes_eq, option_map}
+use Rattle.std.proofs.Common.{◌≡◌, ◌++◌, ◌∷◌, true, false, cond, Some, None, suc, T, sym, ap, subst, ◌∙◌, arith, rules}
+use Rattle.std.specs.Prelude.{bytes_eq, max, option_map}
 use Rattle.rows.specs.Keys.{name_cmp}
 use Rattle.rows.specs.Rising.{is_rising}
 use Rattle.fsm_tables.specs.Rows.{row_of}
 use Rattle.fsm_tables.proofs.RowLaws.{second}
-use Rattle.eval_broker.specs.Inner.Trees.{tree_rows}
+use Rattle.eval_broker.specs.Inner.Trees.{tree_rows, levels}
 use Rattle.eval_broker.specs.Inner.Lists.{rank_cmp, rank_job}
 use Rattle.eval_broker.proofs.Splits.{rising_front, rising_back}
 use Rattle.eval_broker.proofs.FirstOfJob.{is_early, unmapped, job_left, job_right, job_here}
@@ -13,18 +13,22 @@ use Rattle.eval_broker.proofs.ranks.+first_of.Goals as goal
 pub first_of-requires : goal.first_of-requires
 first_of-requires t c =
     let here = c.in-Fork.branch.value in
+    let high : levels c.args.ranks.now ≡ suc (max (levels here.left) (levels here.right)) = search rules in
+    let low : levels c.deref-then-lt.result.now.right ≡ levels here.right = search rules in
     let is : tree_rows c.args.ranks.now ≡ tree_rows here.left ++ here.row ∷ tree_rows here.right = search rules in
     let same : tree_rows c.deref-then-lt.result.now.right ≡ tree_rows here.right = search rules in
     let rising = rising_back rank_cmp (λ p. p) (tree_rows here.left) (here.row ∷ tree_rows here.right) (subst (λ zs. T (is_rising rank_cmp (λ p. p) zs)) is c.requires) in
-    (omega (arith, ap length is, ap length same, length-append (tree_rows here.left) (here.row ∷ tree_rows here.right)), subst (λ zs. T (is_rising rank_cmp (λ p. p) zs)) (sym same) (second _ _ rising))
+    (omega (arith, high, low), subst (λ zs. T (is_rising rank_cmp (λ p. p) zs)) (sym same) (second _ _ rising))
 
 pub first_of-requires-in-Fork : goal.first_of-requires-in-Fork
 first_of-requires-in-Fork t c =
     let here = c.in-Fork.branch.value in
+    let high : levels c.args.ranks.now ≡ suc (max (levels here.left) (levels here.right)) = search rules in
+    let low : levels c.deref-in-Fork.result.now.left ≡ levels here.left = search rules in
     let is : tree_rows c.args.ranks.now ≡ tree_rows here.left ++ here.row ∷ tree_rows here.right = search rules in
     let same : tree_rows c.deref-in-Fork.result.now.left ≡ tree_rows here.left = search rules in
     let rising = rising_front rank_cmp (λ p. p) (tree_rows here.left) (here.row ∷ tree_rows here.right) (subst (λ zs. T (is_rising rank_cmp (λ p. p) zs)) is c.requires) in
-    (omega (arith, ap length is, ap length same, length-append (tree_rows here.left) (here.row ∷ tree_rows here.right)), subst (λ zs. T (is_rising rank_cmp (λ p. p) zs)) (sym same) rising)
+    (omega (arith, high, low), subst (λ zs. T (is_rising rank_cmp (λ p. p) zs)) (sym same) rising)
 
 pub returns-then-lt : goal.returns-then-lt
 returns-then-lt t c =

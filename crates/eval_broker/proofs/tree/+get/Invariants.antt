@@ -1,6 +1,5 @@
-use Rattle.std.proofs.Common.{length}
-use Rattle.eval_broker.specs.Inner.Trees.{tree_rows}
+use Rattle.eval_broker.specs.Inner.Trees.{levels}
 use Rattle.eval_broker.proofs.tree.+get.Given as goal
 
 abbrev pub decreases-get : goal.decreases-get
-decreases-get g l = length (tree_rows l.tree.now)
+decreases-get g l = levels l.tree.now

@@ -1,6 +1,5 @@
-use Rattle.std.proofs.Common.{length}
-use Rattle.eval_broker.specs.Inner.Trees.{tree_rows}
+use Rattle.eval_broker.specs.Inner.Trees.{levels}
 use Rattle.eval_broker.proofs.tree.+put.Given as goal
 
 abbrev pub decreases-put : goal.decreases-put
-decreases-put g l = length (tree_rows l.tree.now)
+decreases-put g l = levels l.tree.now
