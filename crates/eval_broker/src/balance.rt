@@ -71,7 +71,11 @@ fn turned_right<T: Drop>(top: Box<Branch<T>>, left: Tree<T>, right: Tree<T>) -> 
     };
     let before = mem::replace(&mut middle.left, Tree::Leaf);
     let behind = mem::replace(&mut middle.right, Tree::Leaf);
-    fork_over(middle, fork_over(side, outer, before), fork_over(top, behind, right))
+    fork_over(
+        middle,
+        fork_over(side, outer, before),
+        fork_over(top, behind, right),
+    )
 }
 
 /// A fork whose right side has two levels more than its left one, in balance.
@@ -98,7 +102,11 @@ fn turned_left<T: Drop>(top: Box<Branch<T>>, left: Tree<T>, right: Tree<T>) -> T
     };
     let before = mem::replace(&mut middle.left, Tree::Leaf);
     let behind = mem::replace(&mut middle.right, Tree::Leaf);
-    fork_over(middle, fork_over(top, left, before), fork_over(side, behind, outer))
+    fork_over(
+        middle,
+        fork_over(top, left, before),
+        fork_over(side, behind, outer),
+    )
 }
 
 /// A fork over two sides, of which neither has more than two levels more than the other, in

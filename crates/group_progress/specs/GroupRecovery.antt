@@ -15,12 +15,15 @@ use Rattle.group_safety.specs.Desks.{Mirrors}
 -- deliveries of messages that were sent since the first: all that were sent before may be lost.
 pub data GroupRecovery (i : ℕ) (w : World) : (timeouts beats : ℕ) → World → Type 0 where
   no_event : GroupRecovery i w 0 0 w
-  a_delivery : {t b : ℕ} {x : World} (place : ℕ) (y : World) → GroupRecovery i w t b x → length w.sent ≤ place →
-      IsEvent x (Deliver place) → happens x (Deliver place) ≡ Ok y → GroupRecovery i w t b y
+  a_delivery : {t b : ℕ} {x : World} (place : ℕ) (y : World) → GroupRecovery i w t b x →
+      length w.sent ≤ place → IsEvent x (Deliver place) → happens x (Deliver place) ≡ Ok y →
+      GroupRecovery i w t b y
   a_timeout : {t b : ℕ} {x : World} (y : World) → GroupRecovery i w t b x →
-      IsEvent x (AtServer i inputs.Timeout) → happens x (AtServer i inputs.Timeout) ≡ Ok y → GroupRecovery i w (suc t) b y
+      IsEvent x (AtServer i inputs.Timeout) → happens x (AtServer i inputs.Timeout) ≡ Ok y →
+      GroupRecovery i w (suc t) b y
   a_beat : {t b : ℕ} {x : World} (y : World) → GroupRecovery i w t b x →
-      IsEvent x (AtServer i inputs.Beat) → happens x (AtServer i inputs.Beat) ≡ Ok y → GroupRecovery i w t (suc b) y
+      IsEvent x (AtServer i inputs.Beat) → happens x (AtServer i inputs.Beat) ≡ Ok y →
+      GroupRecovery i w t (suc b) y
 
 -- the desk of server i is open, and mirrors the state that the server has applied
 pub record HasOpenDesk (i : ℕ) (w : World) : Type 0 where
@@ -48,14 +51,16 @@ pub record GroupCanSettle (n : ℕ) (Q : ℕ → Bool) (w : World) : Type 0 wher
   -- it still has all that it had
   pub keeps : Agree (length server.log) server.log settled.server.log
   pub applied : (j : ℕ) → j < n → Q j ≡ true →
-      (s : Raft Command) × (slice_get (raft_of world).servers j ≡ Some s) × (is_up s.mode ≡ true) × (length settled.server.log ≤ s.commit)
+      (s : Raft Command) × (slice_get (raft_of world).servers j ≡ Some s) ×
+      (is_up s.mode ≡ true) × (length settled.server.log ≤ s.commit)
   pub desk : HasOpenDesk who world
 
 -- From the first world the second is reached by so many restarts of servers.
 pub data GroupAfterRestarts (w : World) : ℕ → World → Type 0 where
   no_restart : GroupAfterRestarts w 0 w
   a_restart : {c : ℕ} {x : World} (i : ℕ) (y : World) → GroupAfterRestarts w c x →
-      IsEvent x (AtServer i inputs.Restart) → happens x (AtServer i inputs.Restart) ≡ Ok y → GroupAfterRestarts w (suc c) y
+      IsEvent x (AtServer i inputs.Restart) → happens x (AtServer i inputs.Restart) ≡ Ok y →
+      GroupAfterRestarts w (suc c) y
 
 -- The servers that are down restart, and then all come to have applied as much as the log of one
 -- has, which leads with an open desk.

@@ -12,8 +12,8 @@ ghost use Rattle.group_progress.specs.GroupRecovery.{GroupCanSettle, GroupCanRec
 
 /// From each world of each run of two or more servers of which a quorum is up, some member of it
 /// comes to lead with an open desk, and every member to have applied all of the leader's log: by at
-/// most two timeouts, so many beats as its log's length tells, and deliveries of what is sent on the
-/// way.
+/// most two timeouts, so many beats as its log's length tells, and deliveries of what is sent on
+/// the way.
 pub fn never_stuck()
     ensures { EachRun (λ n nodes events past w. 2 ≤ n → (Q : ℕ → Bool) → Quorum n Q
         → AllUp n Q (raft_of w) → HasRoom n Q (raft_of w) → GroupCanSettle n Q w) }
