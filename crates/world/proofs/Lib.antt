@@ -27,3 +27,5 @@ pub mod GroupRuns
 pub mod GroupStandings
 pub mod GroupTraces
 pub mod GroupReplays
+pub mod Recoveries
+pub mod Rooms

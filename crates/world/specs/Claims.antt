@@ -1,13 +1,15 @@
 -- What holds of every world that was reached. Moments, and the servers and logs at them, are those
 -- of the value's runs.
-use Rattle.std.specs.Prelude.{◌≡◌, ℕ, if◌then◌else◌, Option, Some, None, List, length, take, slice_get}
+use Rattle.std.specs.Prelude.{◌≡◌, ℕ, Bool, if◌then◌else◌, Option, Some, None, List, length, take, slice_get}
 use Rattle.machine_model.specs.Meaning.{Meaning}
 use Rattle.machine_model.specs.declared.entry.Entry.{Entry}
 use Rattle.raft_model.specs.Logs.{state_after}
+use Rattle.raft_model.specs.Quorums.{Quorum}
 use Rattle.raft_model.specs.Rafts.{Raft, is_up}
 use Rattle.raft_model.specs.Worlds.{World, OneLeader}
 use Rattle.raft_model.specs.Chains.{Chain}
 use Rattle.raft_safety.specs.Claims.{LogMatching}
+use Rattle.raft_progress.specs.Recovery.{AllUp, HasRoom, CanSettle, CanRecover, everybody}
 use Rattle.world.specs.WorldView.{WorldView, RunsTo}
 
 -- The value has a run, and in each of its runs no two servers ever led one term. (Raft, Figure 3,
@@ -45,6 +47,23 @@ pub record StatesSafeEver {S C : Type 0} (m : Meaning S C) (view : WorldView S C
   pub world : World C
   pub runs : RunsTo m view past world
   pub ever : (past : List (World C)) (w : World C) → RunsTo m view past w → (list : List (Entry C)) → Chain past w list → (k : ℕ) → m.safe (state_after m (take k list))
+
+-- From this world of n servers there is a way back. Where the members of a quorum Q are up, and
+-- have room for two more terms and entries, one of them can come to lead, and all of them to have
+-- applied its whole log (`settles`). Where all servers have such room, so can they all, once those
+-- that are down have restarted (`recovers`). (Raft, section 5.6, availability; nothing is said of
+-- time.)
+pub record IsNotStuck {S C : Type 0} (m : Meaning S C) (n : ℕ) (w : World C) : Type 0 where
+  pub settles : (Q : ℕ → Bool) → Quorum n Q → AllUp n Q w → HasRoom n Q w → CanSettle m n Q w
+  pub recovers : HasRoom n everybody w → CanRecover m n w
+
+-- The value has a run, and where each of its runs leads the group is not stuck.
+pub record RecoversEver {S C : Type 0} (m : Meaning S C) (view : WorldView S C) : Type 0 where
+  pub past : List (World C)
+  pub world : World C
+  pub runs : RunsTo m view past world
+  pub ever : (past : List (World C)) (w : World C) → RunsTo m view past w →
+      IsNotStuck m (length view.servers) w
 
 -- ---- machines
 

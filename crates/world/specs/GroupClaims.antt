@@ -1,15 +1,18 @@
 -- What holds of every group that was reached. Moments, and the servers and logs at them, are those
 -- of the value's runs.
-use Rattle.std.specs.Prelude.{◌≡◌, ℕ, ◌<◌, Option, List, length}
+use Rattle.std.specs.Prelude.{◌≡◌, ℕ, ◌<◌, Bool, Option, List, length}
 use Rattle.rows.specs.declared.command.Command.{Command}
 use Rattle.machine_model.specs.declared.entry.Entry.{Entry}
+use Rattle.raft_model.specs.Quorums.{Quorum}
 use Rattle.raft_safety.specs.Claims.{IsGreatestCommit}
+use Rattle.raft_progress.specs.Recovery.{AllUp, HasRoom, everybody}
 use Rattle.cluster_model.specs.Words.{State}
 use Rattle.cluster_model.specs.ClusterMachine.{cluster_meaning}
 use Rattle.group_model.specs.Inputs as inputs
 use Rattle.group_model.specs.Agents as agents
 use Rattle.group_model.specs.Worlds.{World, Event, Deliver, AtServer, AtClient, raft_of}
 use Rattle.group_safety.specs.Claims.{OneList, SafeStates, PlansAreBacked, StartsArePlaced, logs}
+use Rattle.group_progress.specs.GroupRecovery.{GroupCanSettle, GroupCanRecover}
 use Rattle.world.specs.Claims.{machine_of}
 use Rattle.world.specs.GroupView.{GroupView, GroupRunsTo}
 
@@ -64,6 +67,24 @@ pub record GroupHeadline (view : GroupView) : Type 0 where
   pub safe : SafeStates list
   pub backed : (past : List World) (w : World) → GroupRunsTo view past w → PlansAreBacked view.trace past w list
   pub placed : (past : List World) (w : World) → GroupRunsTo view past w → StartsArePlaced past w list
+
+-- From this group of n servers there is a way back. Where the members of a quorum Q are up, and
+-- have room for two more terms and entries, one of them can come to lead, with an open desk, and
+-- all of them to have applied its whole log (`settles`). Where all servers have such room, so can
+-- they all, once those that are down have restarted (`recovers`). (Raft, section 5.6, availability;
+-- nothing is said of time.)
+pub record IsGroupNotStuck (n : ℕ) (w : World) : Type 0 where
+  pub settles : (Q : ℕ → Bool) → Quorum n Q → AllUp n Q (raft_of w) → HasRoom n Q (raft_of w) →
+      GroupCanSettle n Q w
+  pub recovers : HasRoom n everybody (raft_of w) → GroupCanRecover n w
+
+-- The value has a run, and where each of its runs leads the group is not stuck.
+pub record GroupRecoversEver (view : GroupView) : Type 0 where
+  pub past : List World
+  pub world : World
+  pub runs : GroupRunsTo view past world
+  pub ever : (past : List World) (w : World) → GroupRunsTo view past w →
+      IsGroupNotStuck (length view.servers) w
 
 -- the replicated state of server i of a world, after all that it has applied; none where there is no
 -- such server, or it is down

@@ -4,3 +4,4 @@ pub mod Inputs
 pub mod Parts
 pub mod GroupInputs
 pub mod GroupParts
+pub mod Room

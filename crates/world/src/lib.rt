@@ -8,6 +8,7 @@ mod group;
 mod history;
 mod input;
 mod machines;
+mod room;
 mod tickets;
 mod world;
 

@@ -1,15 +1,17 @@
-ghost use Rattle.std.specs.Prelude.{◌≡◌, ◌≢◌, ◌<◌, ℕ, length, slice_get, true, Err, List, MatchBool, IfOk, OnErr, IfErr};
+ghost use Rattle.std.specs.Prelude.{◌≡◌, ◌≢◌, ◌+◌, ◌<◌, ◌≤◌, ℕ, length, slice_get, true, Err, List, MatchBool, IfOk, OnErr, IfErr};
 ghost use Rattle.std.specs.Option.{option_copied};
 ghost use Rattle.rows.specs.declared.refusal.Refusal.TheVariants as refusals;
+ghost use Rattle.raft_model.specs.Logs.{MAX};
 ghost use Rattle.raft_model.specs.Rafts.{newcomer};
 ghost use Rattle.raft_model.specs.Worlds.{World};
 ghost use Rattle.raft_core.specs.Steps.{Represents, IsGroupMember};
 ghost use Rattle.raft_safety.specs.Claims.{IsGreatestCommit};
+ghost use Rattle.raft_progress.specs.Recovery.{HasRoom, everybody};
 ghost use Rattle.world.specs.Events.{world_event, world_events};
 ghost use Rattle.rows.specs.GroupSizes.{IsGroup};
 ghost use Rattle.world.specs.WorldView.{RunsTo};
 ghost use Rattle.world.specs.Steps.{WasDone, SameWorld, RefusesEvent, IsAwake, IsNew, IsNoGroup, Played, Replays};
-ghost use Rattle.world.specs.Claims.{OneLeaderEver, LogsMatchEver, OneListEver, StatesSafeEver};
+ghost use Rattle.world.specs.Claims.{OneLeaderEver, LogsMatchEver, OneListEver, StatesSafeEver, RecoversEver};
 ghost use Rattle.world.specs.Tickets.{StoodEver};
 ghost use Rattle.world.specs.Inner.Inputs.{ActsIn, IsSent};
 
@@ -17,8 +19,10 @@ use crate::done::Done;
 use crate::event::RaftEvent;
 use crate::history::History;
 use crate::input::actor;
+use crate::room::rafts_have_room;
 use machine::Machine;
 use raft_core::{Raft, Stable};
+use raft_progress::{a_short_run_has_room, each_group_recovers, never_stuck};
 use raft_safety::{log_matching, one_leader_a_term, one_list, states_are_safe, within_limits};
 use rows::{Index, NoMemory, Refusal, ServerId, is_group_size};
 use std::alloc::Global;
@@ -143,6 +147,7 @@ impl<M: Machine> RaftWorld<M> {
         ensures log_matching { LogsMatchEver M.meaning self.new }
         ensures one_list { OneListEver M.meaning self.new }
         ensures safe_states { StatesSafeEver M.meaning self.new }
+        ensures recovers { RecoversEver M.meaning self.new }
         ensures size { IsGroup (length self.new.servers) }
         // What stood under a ticket stood there.
         ensures stood { (index term : ℕ) (command : M.Command) →
@@ -155,6 +160,7 @@ impl<M: Machine> RaftWorld<M> {
         self.log_matching();
         self.one_list();
         self.safe_states();
+        self.recovers();
         done
     }
 
@@ -192,6 +198,7 @@ impl<M: Machine> RaftWorld<M> {
         ensures log_matching { IfOk result (λ w. LogsMatchEver M.meaning w) }
         ensures one_list { IfOk result (λ w. OneListEver M.meaning w) }
         ensures safe_states { IfOk result (λ w. StatesSafeEver M.meaning w) }
+        ensures recovers { IfOk result (λ w. RecoversEver M.meaning w) }
         ensures size { IfOk result (λ w. IsGroup (length w.servers)) }
     {
         let mut world = Self::new(alloc, n)?;
@@ -206,6 +213,7 @@ impl<M: Machine> RaftWorld<M> {
         world.log_matching();
         world.one_list();
         world.safe_states();
+        world.recovers();
         Ok(world)
     }
 
@@ -252,6 +260,34 @@ impl<M: Machine> RaftWorld<M> {
     {
         let _ = &self.servers;
         states_are_safe::<M>();
+    }
+
+    /// The group is not stuck, whatever happened, where it has room for two more terms and entries
+    /// (`has_room`): who is down may restart, and then some server can come to lead, and all of
+    /// them to have applied its whole log. It takes at most two timeouts of that server, so many of
+    /// its beats as the length of its log tells, and deliveries of messages. Where a quorum is up
+    /// and has such room, its members can do so by themselves. (Raft, section 5.6.)
+    ///
+    /// That is what can happen; that it does happen, or when, is not said.
+    pub fn recovers(&self)
+        ensures { RecoversEver M.meaning self.now }
+    {
+        let _ = &self.servers;
+        never_stuck::<M>();
+        each_group_recovers::<M>();
+    }
+
+    /// Whether each server has room for two more terms and two more entries, as `recovers` asks.
+    pub fn has_room(&self) -> bool
+        ensures value { (past : List (World M.Command)) (w : World M.Command) →
+            RunsTo M.meaning self.now past w →
+            MatchBool result (HasRoom (length self.now.servers) everybody w)
+            (HasRoom (length self.now.servers) everybody w → ⊥) }
+        // It has, as long as fewer than 2^40 - 2 events happened.
+        ensures short { length self.now.trace + 2 ≤ MAX → result ≡ true }
+    {
+        a_short_run_has_room::<M>();
+        rafts_have_room(&self.servers)
     }
 
     /// The greatest number of entries that any server has applied so far; 0 while nothing is

@@ -1,31 +1,36 @@
 //! A group of servers and clients in one value.
-ghost use Rattle.std.specs.Prelude.{◌≡◌, ◌≢◌, ℕ, ◌<◌, ◌≤◌, suc, false, Some, None, Err, length, replicate, slice_get, [], IfOk, OnErr, IfErr, IfSome, IfNone, MatchBool, List};
+ghost use Rattle.std.specs.Prelude.{◌≡◌, ◌≢◌, ℕ, ◌+◌, ◌<◌, ◌≤◌, suc, true, false, Some, None, Err, length, replicate, slice_get, [], IfOk, OnErr, IfErr, IfSome, IfNone, MatchBool, List};
 ghost use Rattle.std.specs.Option.{option_copied};
 ghost use Rattle.std.specs.List.{AllZip, AllByRecursion};
 ghost use Rattle.rows.specs.declared.refusal.Refusal.TheVariants as refusals;
 ghost use Rattle.rows.specs.declared.actor.Actor.TheVariants as actors;
 ghost use Rattle.group_model.specs.Servers.{newcomer};
 ghost use Rattle.group_model.specs.Agents.{agent_of};
-ghost use Rattle.group_model.specs.Worlds.{Deliver, AtServer, AtClient};
+ghost use Rattle.group_model.specs.Worlds as worlds;
+ghost use Rattle.group_model.specs.Worlds.{Deliver, AtServer, AtClient, raft_of};
+ghost use Rattle.raft_model.specs.Logs.{MAX};
+ghost use Rattle.raft_progress.specs.Recovery.{HasRoom, everybody};
 ghost use Rattle.group_safety.specs.Limits.{NodesFit};
 ghost use Rattle.group_inputs.specs.Handings.{handing};
 ghost use Rattle.actor.specs.Handed.{comes_as_frame, is_client_frame};
 ghost use Rattle.server.specs.ServerViews.{ServerView, IsServer};
 ghost use Rattle.rows.specs.GroupSizes.{IsGroup};
 ghost use Rattle.group_inputs.specs.Events.{position_of, server_input, client_input, group_event, group_events};
-ghost use Rattle.world.specs.GroupView.{client_view, nodes_of, ServersKnowNumbers, ClientsKnowNumbers, IsSentTo};
+ghost use Rattle.world.specs.GroupView.{GroupRunsTo, client_view, nodes_of, ServersKnowNumbers, ClientsKnowNumbers, IsSentTo};
 ghost use Rattle.world.specs.GroupSteps.{IsGroupDone, SameView, RefusesGroupEvent, IsGroupAwake, IsNewGroup, WhyNoGroup, GroupPlayed, GroupReplays};
-ghost use Rattle.world.specs.GroupClaims.{OneGroupList, SafeGroupStates, BackedPlans, PlacedStarts, GroupHeadline, IsGreatestEver, IsTraced};
+ghost use Rattle.world.specs.GroupClaims.{OneGroupList, SafeGroupStates, BackedPlans, PlacedStarts, GroupHeadline, GroupRecoversEver, IsGreatestEver, IsTraced};
 ghost use Rattle.world.specs.Inner.GroupInputs.{new_agents};
 ghost use Rattle.world.specs.Inner.GroupParts.{GroupStepped};
 
 use crate::done::Done;
 use crate::group::history::GroupHistory;
 use crate::group::ranges::ranges;
+use crate::room::servers_have_room;
 use actor::{is_client_frame, is_client_restart, is_frame, is_restart};
 use client_agent::Agent;
 use fsm_state::Cluster;
 use group_inputs::{ClientInput, Event, ServerInput};
+use group_progress::{a_short_run_has_room, each_group_recovers, never_stuck};
 use group_safety::{
     limits_are_kept, one_list, plans_are_backed, senders_are_members, starts_are_placed,
     states_are_safe,
@@ -316,6 +321,7 @@ impl World {
         ensures starts_placed { PlacedStarts self.new }
         // All four at once.
         ensures headline { GroupHeadline self.new }
+        ensures recovers { GroupRecoversEver self.new }
         ensures size { IsGroup (length self.new.servers) }
     {
         let done = self.take(event);
@@ -325,6 +331,7 @@ impl World {
         self.plans_backed();
         self.starts_placed();
         self.headline();
+        self.recovers();
         done
     }
 
@@ -376,6 +383,7 @@ impl World {
         ensures starts_placed { IfOk result (λ w. PlacedStarts w) }
         // All four at once.
         ensures headline { IfOk result (λ w. GroupHeadline w) }
+        ensures recovers { IfOk result (λ w. GroupRecoversEver w) }
         ensures size { IfOk result (λ w. IsGroup (length w.servers)) }
     {
         // What is handed in is within its limits, and so is what is proposed for it.
@@ -394,6 +402,7 @@ impl World {
         world.plans_backed();
         world.starts_placed();
         world.headline();
+        world.recovers();
         Ok(world)
     }
 
@@ -462,6 +471,37 @@ impl World {
         states_are_safe();
         plans_are_backed();
         starts_are_placed();
+    }
+
+    /// The group is not stuck, whatever happened, where it has room for two more terms and entries
+    /// (`has_room`): who is down may restart, and then some server can come to lead, with an open
+    /// desk, and all of them to have applied its whole log. It takes at most two timeouts of that
+    /// server, so many of its beats as the length of its log tells, and deliveries of messages.
+    /// Where a quorum is up and has such room, its members can do so by themselves. (Raft, section
+    /// 5.6.)
+    ///
+    /// That is what can happen; that it does happen, or when, is not said.
+    pub fn recovers(&self)
+        ensures { GroupRecoversEver self.now }
+    {
+        let _ = &self.servers;
+        limits_are_kept();
+        never_stuck();
+        each_group_recovers();
+    }
+
+    /// Whether each server has room for two more terms and two more entries, as `recovers` asks.
+    pub fn has_room(&self) -> bool
+        ensures value { (past : List worlds.World) (w : worlds.World) →
+            GroupRunsTo self.now past w →
+            MatchBool result (HasRoom (length self.now.servers) everybody (raft_of w))
+            (HasRoom (length self.now.servers) everybody (raft_of w) → ⊥) }
+        // It has, as long as fewer than 2^40 - 2 events happened.
+        ensures short { length self.now.trace + 2 ≤ MAX → result ≡ true }
+    {
+        limits_are_kept();
+        a_short_run_has_room();
+        servers_have_room(&self.servers)
     }
 
     /// The greatest number of entries that any server has applied so far; 0 while nothing is

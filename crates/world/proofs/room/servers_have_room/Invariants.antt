@@ -1,0 +1,7 @@
+use Rattle.server.specs.ServerViews.{IsServer}
+use Rattle.world.specs.Inner.Room.{ServerHasRoom}
+use Rattle.world.proofs.Rooms.{FirstHave}
+use Rattle.world.proofs.room.servers_have_room.Given as goal
+
+abbrev pub invariant-loop-server : goal.invariant-loop-server
+invariant-loop-server l = FirstHave IsServer ServerHasRoom l.servers l.server-index
