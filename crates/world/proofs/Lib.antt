@@ -26,6 +26,7 @@ pub mod GroupBegins
 pub mod GroupRuns
 pub mod GroupStandings
 pub mod GroupTraces
+pub mod GroupShown
 pub mod GroupReplays
 pub mod Recoveries
 pub mod Rooms

@@ -7,5 +7,6 @@ pub mod GroupWork
 pub mod GroupView
 pub mod GroupSteps
 pub mod GroupClaims
+pub mod GroupShown
 pub mod GroupTickets
 pub mod Inner

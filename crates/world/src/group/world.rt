@@ -1,5 +1,5 @@
 //! A group of servers and clients in one value.
-ghost use Rattle.std.specs.Prelude.{◌≡◌, ◌≢◌, ℕ, ◌+◌, ◌<◌, ◌≤◌, suc, true, false, Some, None, Err, length, replicate, slice_get, [], IfOk, OnErr, IfErr, IfSome, IfNone, MatchBool, List};
+ghost use Rattle.std.specs.Prelude.{◌≡◌, ◌≢◌, ℕ, ◌+◌, ◌<◌, ◌≤◌, suc, true, false, Some, None, Err, length, replicate, slice_get, [], IfOk, OnErr, IfErr, IfSome, IfNone, MatchBool, List, ◌∷◌, map};
 ghost use Rattle.std.specs.Option.{option_copied};
 ghost use Rattle.std.specs.List.{AllZip, AllByRecursion};
 ghost use Rattle.rows.specs.declared.refusal.Refusal.TheVariants as refusals;
@@ -19,6 +19,8 @@ ghost use Rattle.group_inputs.specs.Events.{position_of, server_input, client_in
 ghost use Rattle.world.specs.GroupView.{GroupRunsTo, client_view, nodes_of, ServersKnowNumbers, ClientsKnowNumbers, IsSentTo};
 ghost use Rattle.world.specs.GroupSteps.{IsGroupDone, SameView, RefusesGroupEvent, IsGroupAwake, IsNewGroup, WhyNoGroup, GroupPlayed, GroupReplays};
 ghost use Rattle.world.specs.GroupClaims.{OneGroupList, SafeGroupStates, BackedPlans, PlacedStarts, GroupHeadline, GroupRecoversEver, IsGreatestEver, IsTraced};
+ghost use Rattle.spec.specs.Visible.{Visible};
+ghost use Rattle.world.specs.GroupShown.{HasShown, ShownAfter, OfTheLast, started_in, CarryDeliveries, ShownBySpec};
 ghost use Rattle.world.specs.Inner.GroupInputs.{new_agents};
 ghost use Rattle.world.specs.Inner.GroupParts.{GroupStepped};
 
@@ -40,6 +42,7 @@ use rows::{
     all_ranges, is_group_size,
 };
 use server::Server;
+use spec::every_run_shows_the_spec;
 use std::alloc::Global;
 use std::marker::Model;
 use wire::{Frames, frames_are_whole};
@@ -322,6 +325,9 @@ impl World {
         // All four at once.
         ensures headline { GroupHeadline self.new }
         ensures recovers { GroupRecoversEver self.new }
+        // What it has shown goes on by what is seen now.
+        ensures shown { (shown : List Visible) → HasShown self.old shown →
+            ShownAfter result self.new shown }
         ensures size { IsGroup (length self.new.servers) }
     {
         let done = self.take(event);
@@ -347,6 +353,8 @@ impl World {
         // Want of memory is not answered where there is no such group.
         ensures memory { IfErr result (λ refusal. refusal ≡ refusals.NoMemory →
             IsGroup n × (length nodes.now ≤ 64)) }
+        // It has shown one moment.
+        ensures shown { IfOk result (λ w. (now : Visible) × HasShown w (now ∷ [])) }
     {
         if !is_group_size(n) {
             return Err(Refusal::OutOfRange);
@@ -384,6 +392,7 @@ impl World {
         // All four at once.
         ensures headline { IfOk result (λ w. GroupHeadline w) }
         ensures recovers { IfOk result (λ w. GroupRecoversEver w) }
+        ensures shown { IfOk result (λ w. (shown : List Visible) × HasShown w shown) }
         ensures size { IfOk result (λ w. IsGroup (length w.servers)) }
     {
         // What is handed in is within its limits, and so is what is proposed for it.
@@ -403,6 +412,7 @@ impl World {
         world.starts_placed();
         world.headline();
         world.recovers();
+        world.has_shown();
         Ok(world)
     }
 
@@ -504,6 +514,25 @@ impl World {
         servers_have_room(&self.servers)
     }
 
+    /// Whatever the group has shown, moment by moment, is what the specification shows: one state
+    /// machine of one page (`spec`). `new` begins what is shown, `step` goes on with it, and
+    /// `state`, `clients` and `sent` answer what is shown last. (Abadi and Lamport, "The Existence
+    /// of Refinement Mappings", 1991.)
+    pub fn shows_the_spec(&self)
+        ensures { ShownBySpec self.now }
+    {
+        let _ = &self.servers;
+        limits_are_kept();
+        every_run_shows_the_spec();
+    }
+
+    /// It has shown something so far, moment by moment.
+    pub fn has_shown(&self)
+        ensures { (shown : List Visible) × HasShown self.now shown }
+    {
+        let _ = &self.servers;
+    }
+
     /// The greatest number of entries that any server has applied so far; 0 while nothing is
     /// applied.
     pub fn chain(&self) -> Index
@@ -525,7 +554,9 @@ impl World {
 
     /// All frames that were ever sent, in order.
     pub fn sent(&self) -> &Frames
-        ensures { result.now ≡ self.now.outbox.frames }
+        ensures value { result.now ≡ self.now.outbox.frames }
+        // They carry messages, one for one, that delivered what is shown last.
+        ensures shown { OfTheLast self.now (λ now. CarryDeliveries result.now now) }
     {
         self.history.sent()
     }
@@ -550,6 +581,8 @@ impl World {
     pub fn take_work(&mut self) -> Sequence<Work>
         ensures work { result ≡ self.old.outbox.work }
         ensures rest { self.new ≡ record self.old { outbox = record self.old.outbox { work = [] } } }
+        ensures shown { (shown : List Visible) → HasShown self.old shown →
+            HasShown self.new shown }
     {
         self.history.take_work()
     }
@@ -581,6 +614,8 @@ impl World {
     /// The clients in the order of their nodes: the k-th, from 1, is that of node k. At most 64.
     pub fn clients(&self) -> &[Agent]
         ensures clients { result.now ≡ self.now.clients }
+        // What they ever started is what is shown last.
+        ensures shown { OfTheLast self.now (λ now. now.started ≡ map started_in result.now) }
         ensures places { ClientsKnowNumbers self.now }
         ensures nodes { NodesFit (nodes_of self.now) }
     {
