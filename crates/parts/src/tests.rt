@@ -13,6 +13,7 @@ mod full_tables;
 mod lines;
 mod logs;
 mod nets;
+mod orders;
 mod plan_checks;
 mod service_frames;
 mod services;
