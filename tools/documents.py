@@ -176,9 +176,14 @@ def is_open(word):
     return OTHERS.fullmatch(word) is not None and len(word) < 12
 
 
+def is_other(part):
+    """Whether a part of a path stands for others, or for a number, as in L/32."""
+    return part in PARTS or len(part) == 1 or part.isdigit()
+
+
 def wrong_path(path, sources, page):
     parts = path.split("/")
-    others = any(part.split(".")[0] in PARTS for part in parts)
+    others = any(is_other(part.split(".")[0]) for part in parts)
     if others or "out" in parts or "*" in path or "<" in path or ".." in parts or path.startswith(("/", "-")):
         return None
     return None if sources.finds(path, page.path) else f"there is no file {path}"
