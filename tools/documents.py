@@ -7,8 +7,8 @@
   in one crate, of `name` of `crate` in that crate.
 - Of `Type::name` (`one`, `other`) each in the brackets is a clause of that function's contract, or
   a word of its crate that names no clause anywhere.
-- A block marked rt stands so in a source, but for blanks and for lines `..`, which stand for others.
-  So does each line `old:` of a block, and each line `new:` in an edit.
+- A block marked rt stands so in a source, but for blanks and for lines `..`, which stand for
+  others. So does each line `old:` of a block, and each line `new:` in an edit.
 """
 import os
 import re
@@ -102,7 +102,7 @@ class Sources:
         own = page.split("/")
         places = ["", os.path.dirname(page), "crates"]
         places += [f"crates/{own[1]}"] if own[0] == "crates" and len(own) > 2 else []
-        places += ["wrong-bodies", *[f"wrong-bodies/{it}" for it in ("",)]]
+        places += ["wrong-bodies"]
         for place in places:
             for ending in ("", ".antt", ".rt", ".edit"):
                 whole = os.path.normpath(f"{place}/{path}" if place else path) + ending
@@ -184,7 +184,8 @@ def is_other(part):
 def wrong_path(path, sources, page):
     parts = path.split("/")
     others = any(is_other(part.split(".")[0]) for part in parts)
-    if others or "out" in parts or "*" in path or "<" in path or ".." in parts or path.startswith(("/", "-")):
+    apart = "out" in parts or ".." in parts or path.startswith(("/", "-"))
+    if others or apart or "*" in path or "<" in path:
         return None
     return None if sources.finds(path, page.path) else f"there is no file {path}"
 
@@ -208,7 +209,8 @@ def wrong_span(text, sources, page):
             return f"no crate has {owner}::{name}"
     for word in NAME.findall(re.sub(r"\d+(?:\.\d+)*", " ", text)):
         known = word in sources.words or is_open(word)
-        if not known and not all(part in sources.words or is_open(part) for part in word.split("-")):
+        parts = word.split("-")
+        if not known and not all(it in sources.words or is_open(it) for it in parts):
             return f"no source has {word}"
     return None
 
@@ -226,8 +228,8 @@ def wrong_clauses(span, names, sources):
     crates = sources.crates_with(call[1], call[2])
     for name in names:
         is_its = any(name in sources.clauses[it, call[2]] for it in crates)
-        is_word = name not in sources.all_clauses and any(name in sources.of_crate[it] for it in crates)
-        if not is_its and not is_word:
+        is_word = any(name in sources.of_crate[it] for it in crates)
+        if not is_its and (name in sources.all_clauses or not is_word):
             return f"{span} has no clause {name}"
     return None
 
