@@ -1,5 +1,5 @@
 -- How high a balanced tree is: at most 22 levels of 65,536 rows, and 91 of as many as 64 bits count.
-use Rattle.std.proofs.Common.{◌≡◌, ℕ, zero, suc, ◌+◌, ◌<◌, ◌≤◌, ◌-◌, ◌^◌, inl, inr, List, [], ◌∷◌, ◌++◌, length, length-append, refl, ap, sym, ◌∙◌, subst, arith}
+use Rattle.std.proofs.Common.{◌≡◌, ℕ, zero, suc, ◌+◌, ◌<◌, ◌≤◌, ◌-◌, ◌^◌, inl, inr, ◌∷◌, ◌++◌, length, length-append, refl, subst, arith}
 use Rattle.std.specs.Prelude.{◌*◌, max}
 use Rattle.std.proofs.lemmas.Bool.Decides.{leb_tells}
 use Rattle.eval_broker.specs.declared.tree.Tree.{Tree, Leaf, Fork'}

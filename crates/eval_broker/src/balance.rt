@@ -2,8 +2,8 @@
 //! level more than the other, so that a tree of n rows has at most 1.44 log2(n + 2) levels,
 //! whatever rows came and went in whatever order. (Adelson-Velsky and Landis, "An algorithm for the
 //! organization of information", 1962.)
-ghost use Rattle.std.specs.Prelude.{◌≡◌, ◌≤◌, ◌<◌, ◌+◌, ◌++◌, ◌∷◌, suc, max};
-ghost use Rattle.eval_broker.specs.Inner.Trees.{tree_rows, levels, AreWithin, IsBalanced, HasSides};
+ghost use Rattle.std.specs.Prelude.{◌≡◌, ◌≤◌, ◌<◌, ◌+◌, ◌++◌, ◌∷◌, suc, max, false};
+ghost use Rattle.eval_broker.specs.Inner.Trees.{tree_rows, levels, noted, AreWithin, IsBalanced, HasSides};
 
 use crate::tree::{Branch, Tree};
 use std::mem;
@@ -71,7 +71,11 @@ fn turned_right<T: Drop>(top: Box<Branch<T>>, left: Tree<T>, right: Tree<T>) -> 
     };
     let before = mem::replace(&mut middle.left, Tree::Leaf);
     let behind = mem::replace(&mut middle.right, Tree::Leaf);
-    fork_over(middle, fork_over(side, outer, before), fork_over(top, behind, right))
+    fork_over(
+        middle,
+        fork_over(side, outer, before),
+        fork_over(top, behind, right),
+    )
 }
 
 /// A fork whose right side has two levels more than its left one, in balance.
@@ -98,7 +102,11 @@ fn turned_left<T: Drop>(top: Box<Branch<T>>, left: Tree<T>, right: Tree<T>) -> T
     };
     let before = mem::replace(&mut middle.left, Tree::Leaf);
     let behind = mem::replace(&mut middle.right, Tree::Leaf);
-    fork_over(middle, fork_over(top, left, before), fork_over(side, behind, outer))
+    fork_over(
+        middle,
+        fork_over(top, left, before),
+        fork_over(side, behind, outer),
+    )
 }
 
 /// A fork over two sides, of which neither has more than two levels more than the other, in
@@ -125,19 +133,29 @@ pub(crate) fn balanced<T: Drop>(top: Box<Branch<T>>, left: Tree<T>, right: Tree<
     }
 }
 
-/// Puts a tree in balance one of whose sides has changed by one level.
-pub(crate) fn rebalance<T: Drop>(tree: &mut Tree<T>)
+/// Puts a tree in balance one of whose sides may have changed by one level, if it has, and tells
+/// whether the tree has other levels then than it had noted. Where the side has not changed, the
+/// other one is not looked at.
+pub(crate) fn rebalance<T: Drop>(tree: &mut Tree<T>, has_changed: bool) -> bool
     requires sides { HasSides 2 tree.old }
+    requires same { has_changed ≡ false → IsBalanced tree.old }
     requires low { levels tree.old < 99 }
     ensures rows { tree_rows tree.new ≡ tree_rows tree.old }
     ensures balanced { IsBalanced tree.new }
     ensures least { levels tree.old ≤ suc (levels tree.new) }
     ensures most { levels tree.new ≤ levels tree.old }
     ensures near { HasSides 1 tree.old → levels tree.old ≤ levels tree.new }
+    ensures same { result ≡ false → levels tree.new ≡ noted tree.old }
 {
-    if let Tree::Fork(mut top) = mem::replace(tree, Tree::Leaf) {
-        let left = mem::replace(&mut top.left, Tree::Leaf);
-        let right = mem::replace(&mut top.right, Tree::Leaf);
-        *tree = balanced(top, left, right);
+    if !has_changed {
+        return false;
     }
+    let Tree::Fork(mut top) = mem::replace(tree, Tree::Leaf) else {
+        return false;
+    };
+    let before = top.height;
+    let left = mem::replace(&mut top.left, Tree::Leaf);
+    let right = mem::replace(&mut top.right, Tree::Leaf);
+    *tree = balanced(top, left, right);
+    height(tree) != before
 }

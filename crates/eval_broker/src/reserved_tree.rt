@@ -182,7 +182,7 @@ impl<T: Row + Copy> ReservedTree<T> {
         ensures rows { self.new.rows ≡ put T.Key.cmp T.key_of row self.old.rows }
         ensures capacity { self.old.capacity ≤ self.new.capacity }
     {
-        tree::put(&mut self.tree, &mut self.spares, row);
+        let _is_higher = tree::put(&mut self.tree, &mut self.spares, row);
     }
 
     /// Takes out the row of the key, if there is one. It takes no memory, and its room stays.
@@ -190,7 +190,7 @@ impl<T: Row + Copy> ReservedTree<T> {
         ensures rows { self.new.rows ≡ without T.Key.cmp T.key_of key.now self.old.rows }
         ensures capacity { self.old.capacity ≤ self.new.capacity }
     {
-        tree::cut(&mut self.tree, &mut self.spares, key);
+        let _is_lower = tree::cut(&mut self.tree, &mut self.spares, key);
     }
 }
 

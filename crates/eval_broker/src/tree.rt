@@ -1,13 +1,13 @@
 //! Rows in a search tree that is balanced by height, whose forks are kept for later rows when theirs
 //! go.
-ghost use Rattle.std.specs.Prelude.{◌≡◌, ◌<◌, ◌≤◌, ◌++◌, ◌+◌, suc, max, ◌||◌, [], ◌∷◌, length, nat_lt, option_map, IfSome, IfNone, T as Holds};
+ghost use Rattle.std.specs.Prelude.{◌≡◌, ◌<◌, ◌≤◌, ◌++◌, ◌+◌, suc, max, ◌||◌, [], ◌∷◌, length, nat_lt, option_map, IfSome, IfNone, false, T as Holds};
 ghost use Rattle.std.specs.List.{slice_get};
 ghost use Rattle.rows.specs.Rising.{is_rising};
 ghost use Rattle.fsm_tables.specs.Rows.{row_of, has_row, put};
 ghost use Rattle.fsm_tables.specs.ReservedTables.{without};
 ghost use Rattle.eval_broker.specs.Inner.Trees.{tree_rows, chain_length, below_top, levels, AreWithin, IsBalanced};
 
-use crate::balance::{balanced, rebalance};
+use crate::balance::{balanced, height, rebalance};
 use fsm_tables::Row;
 use std::cmp::Ordering;
 use std::mem;
@@ -85,8 +85,8 @@ fn alone<T: Drop>(spares: &mut Tree<T>, row: T) -> Tree<T>
 }
 
 /// Makes or replaces the row of the key, and changes no other. A row that is made takes a spare
-/// fork.
-pub(crate) fn put<T: Row>(tree: &mut Tree<T>, spares: &mut Tree<T>, row: T)
+/// fork. Tells whether the tree is higher then.
+pub(crate) fn put<T: Row>(tree: &mut Tree<T>, spares: &mut Tree<T>, row: T) -> bool
     requires rising { Holds (is_rising T.Key.cmp T.key_of (tree_rows tree.old)) }
     requires spare { Holds (has_row T.Key.cmp T.key_of (T.key_of row) (tree_rows tree.old)
         || nat_lt 0 (chain_length spares.old)) }
@@ -98,22 +98,25 @@ pub(crate) fn put<T: Row>(tree: &mut Tree<T>, spares: &mut Tree<T>, row: T)
     ensures balanced { IsBalanced tree.new }
     ensures least { levels tree.old ≤ levels tree.new }
     ensures most { levels tree.new ≤ suc (levels tree.old) }
+    ensures same { result ≡ false → levels tree.new ≡ levels tree.old }
 {
     match tree {
         Tree::Leaf => {
             *tree = alone(spares, row);
+            true
         }
         Tree::Fork(branch) => match row.key().cmp(branch.row.key()) {
             Ordering::Less => {
-                put(&mut branch.left, spares, row);
-                rebalance(tree);
+                let has_changed = put(&mut branch.left, spares, row);
+                rebalance(tree, has_changed)
             }
             Ordering::Equal => {
                 branch.row = row;
+                false
             }
             Ordering::Greater => {
-                put(&mut branch.right, spares, row);
-                rebalance(tree);
+                let has_changed = put(&mut branch.right, spares, row);
+                rebalance(tree, has_changed)
             }
         },
     }
@@ -133,14 +136,16 @@ fn cut_first<T: Drop>(tree: &mut Tree<T>) -> Option<Box<Branch<T>>>
     let Tree::Fork(mut top) = mem::replace(tree, Tree::Leaf) else {
         return None;
     };
+    let before = height(&top.left);
     match cut_first(&mut top.left) {
         None => {
             *tree = mem::replace(&mut top.right, Tree::Leaf);
             Some(top)
         }
         Some(first) => {
+            let has_changed = height(&top.left) != before;
             *tree = Tree::Fork(top);
-            rebalance(tree);
+            let _is_lower = rebalance(tree, has_changed);
             Some(first)
         }
     }
@@ -163,8 +168,8 @@ fn join<T: Drop>(left: Tree<T>, mut right: Tree<T>) -> Tree<T>
     }
 }
 
-/// Takes out the topmost row. Its fork joins the spare ones.
-fn cut_top<T: Drop>(tree: &mut Tree<T>, spares: &mut Tree<T>)
+/// Takes out the topmost row. Its fork joins the spare ones. Tells whether the tree is lower then.
+fn cut_top<T: Drop>(tree: &mut Tree<T>, spares: &mut Tree<T>) -> bool
     requires balanced { IsBalanced tree.old }
     requires low { levels tree.old < 98 }
     ensures rows { tree_rows tree.new ≡ below_top tree.old }
@@ -173,18 +178,23 @@ fn cut_top<T: Drop>(tree: &mut Tree<T>, spares: &mut Tree<T>)
     ensures balanced { IsBalanced tree.new }
     ensures least { levels tree.old ≤ suc (levels tree.new) }
     ensures most { levels tree.new ≤ levels tree.old }
+    ensures same { result ≡ false → levels tree.new ≡ levels tree.old }
 {
-    if let Tree::Fork(mut branch) = mem::replace(tree, Tree::Leaf) {
-        let left = mem::replace(&mut branch.left, Tree::Leaf);
-        let right = mem::replace(&mut branch.right, Tree::Leaf);
-        *tree = join(left, right);
-        branch.left = mem::replace(spares, Tree::Leaf);
-        *spares = Tree::Fork(branch);
-    }
+    let Tree::Fork(mut branch) = mem::replace(tree, Tree::Leaf) else {
+        return false;
+    };
+    let before = branch.height;
+    let left = mem::replace(&mut branch.left, Tree::Leaf);
+    let right = mem::replace(&mut branch.right, Tree::Leaf);
+    *tree = join(left, right);
+    branch.left = mem::replace(spares, Tree::Leaf);
+    *spares = Tree::Fork(branch);
+    height(tree) != before
 }
 
-/// Takes out the row of the key, if there is one. Its fork joins the spare ones.
-pub(crate) fn cut<T: Row>(tree: &mut Tree<T>, spares: &mut Tree<T>, key: &T::Key)
+/// Takes out the row of the key, if there is one. Its fork joins the spare ones. Tells whether the
+/// tree is lower then.
+pub(crate) fn cut<T: Row>(tree: &mut Tree<T>, spares: &mut Tree<T>, key: &T::Key) -> bool
     requires rising { Holds (is_rising T.Key.cmp T.key_of (tree_rows tree.old)) }
     requires balanced { IsBalanced tree.old }
     requires low { levels tree.old < 98 }
@@ -195,18 +205,19 @@ pub(crate) fn cut<T: Row>(tree: &mut Tree<T>, spares: &mut Tree<T>, key: &T::Key
     ensures balanced { IsBalanced tree.new }
     ensures least { levels tree.old ≤ suc (levels tree.new) }
     ensures most { levels tree.new ≤ levels tree.old }
+    ensures same { result ≡ false → levels tree.new ≡ levels tree.old }
 {
     match tree {
-        Tree::Leaf => {}
+        Tree::Leaf => false,
         Tree::Fork(branch) => match key.cmp(branch.row.key()) {
             Ordering::Less => {
-                cut(&mut branch.left, spares, key);
-                rebalance(tree);
+                let has_changed = cut(&mut branch.left, spares, key);
+                rebalance(tree, has_changed)
             }
             Ordering::Equal => cut_top(tree, spares),
             Ordering::Greater => {
-                cut(&mut branch.right, spares, key);
-                rebalance(tree);
+                let has_changed = cut(&mut branch.right, spares, key);
+                rebalance(tree, has_changed)
             }
         },
     }

@@ -180,6 +180,11 @@ module _ {C : Type 0} (P : List (Entry C) → Type 0) (n : ℕ) (G : History C) 
             terms = λ p one le. omega (arith, new_terms t.log m ad p one le, same);
             rooted = new_rooted t.log m ad;
             holds = new_holds B t.log m v.votes.grow ad;
+            own = λ k le. subst (λ z. k ≤ H.held z i → Agree k (G.ledger z) t.log) (sym same)
+                (λ few. elim (leb_tells k m) [
+                  | inl a ↦ agree_less k a.1 ad.reached
+                  | inr a ↦ ad.kept k (ok.log.own k (omega (arith, few, mine, a.1)))
+                ]) le;
             based = based;
             within = c.0;
             fixed = fixed_later n H s.term t.term t.commit t.log (omega (arith, same)) (fixed_on n G H s.term t.commit t.log e c.1);

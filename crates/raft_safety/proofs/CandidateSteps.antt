@@ -52,7 +52,7 @@ module _ {C : Type 0} (P : List (Entry C) → Type 0) (n : ℕ) (G : History C) 
           voter = v.votes.own;
           unstood = λ u less. both_else G.stood t i (Some s.log) u i (λ q. omega (arith, q, less)) ∙ ok.unstood u (omega (arith, less));
           unheld = λ u less. ok.unheld u (omega (arith, less));
-          log = log_on n G H i s.term t s.log s.covered s.commit e (λ u. refl) (omega arith) ok.log;
+          log = log_on n G H i s.term t s.log s.covered s.commit e (λ u. refl) (omega arith) (ok.unheld t) ok.log;
           role = record {
             stood = both_same G.stood t i (Some s.log);
             unled = λ q. omega (arith, I.late t i q, ok.voter.now);

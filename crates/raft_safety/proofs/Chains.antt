@@ -74,12 +74,12 @@ module _ {S C : Type 0} (m : Meaning S C) (law : LawfulMachine m) (n : ℕ) (eve
       rooted_two st.history.ledger s.log t.log p (st.rooted k i s a) (st.rooted l j t b) one le_s le_t same
 
   -- the list is the first part of a ledger
-  list_fixed : (list : List (Entry C)) → Fixed n st.history st.term (length list) list → (1 ≤ length list) → (v : ℕ) × Agree (length list) list (st.history.ledger v)
+  pub list_fixed : (list : List (Entry C)) → Fixed n st.history st.term (length list) list → (1 ≤ length list) → (v : ℕ) × Agree (length list) list (st.history.ledger v)
   list_fixed list (inl z) some = absurd (omega (arith, z, some))
   list_fixed list (inr f) some = (f.term, f.agree)
 
   -- the list was admitted entry by entry
-  list_sound : Sound m st.list
+  pub list_sound : Sound m st.list
   list_sound = elim (leb_tells 1 (length st.list)) [
     | inl a ↦
         let f = list_fixed st.list st.fixed a.1 in

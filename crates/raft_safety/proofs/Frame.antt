@@ -1,5 +1,5 @@
 -- What survives when the history grows.
-use Rattle.std.proofs.Common.{◌≡◌, ◌≢◌, ℕ, zero, suc, ◌+◌, ◌≤◌, inl, inr, Bool, true, false, Some, List, [], ◌∷◌, length, take, drop, refl, sym, ap, ◌∙◌, subst, arith}
+use Rattle.std.proofs.Common.{◌≡◌, ◌≢◌, ℕ, zero, suc, ◌+◌, ◌<◌, ◌≤◌, inl, inr, Bool, true, false, Some, List, [], ◌∷◌, length, take, drop, refl, sym, ap, ◌∙◌, subst, arith}
 use Rattle.machine_model.specs.declared.entry.Entry.{Entry}
 use Rattle.raft_model.specs.Logs.{term_at}
 use Rattle.raft_model.specs.Messages.{Message, Body, VoteRequest, VoteReply, Append, AppendReply, Install, InstallReply}
@@ -9,7 +9,8 @@ use Rattle.raft_safety.specs.Inner.SmallSteps.{LedBefore}
 use Rattle.raft_safety.specs.Inner.Agreement.{Rooted}
 use Rattle.raft_safety.specs.Inner.History.{History, Fixed, CarriesHeld, Ledgers, Extends, DiffersAt}
 use Rattle.raft_safety.specs.Inner.Invariants.{LogOk, CandidateOk, LeaderOk, ModeOk, ServerOk, AppendOk, InstallOk, BodyOk, MessageOk, KeepsHistory}
-use Rattle.raft_safety.proofs.Logs.{agree_sym, agree_trans, agree_less, agree_term}
+use Rattle.std.proofs.lemmas.Bool.Decides.{leb_tells}
+use Rattle.raft_safety.proofs.Logs.{agree_none, agree_sym, agree_trans, agree_less, agree_term}
 use Rattle.std.proofs.lemmas.List.{drop-take}
 use Rattle.raft_safety.proofs.Growth.{agree_on, carries_on, fixed_on}
 use Rattle.raft_safety.proofs.Voters.{grow_none, grow_more, apart_none, apart_more, voter_on, body_on}
@@ -89,12 +90,20 @@ module _ {C : Type 0} where
   }
 
   -- a log that stays, of a server that acknowledges nothing new
-  pub log_on : (n : ℕ) (G H : History C) (j v w : ℕ) (log : List (Entry C)) (covered commit : ℕ) → Extends G H → ((u : ℕ) → H.held u j ≡ G.held u j) → v ≤ w →
+  pub log_on : (n : ℕ) (G H : History C) (j v w : ℕ) (log : List (Entry C)) (covered commit : ℕ) → Extends G H → ((u : ℕ) → H.held u j ≡ G.held u j) → v ≤ w → (v < w → G.held w j ≡ 0) →
       LogOk n G j v log covered commit → LogOk n H j w log covered commit
-  log_on n G H j v w log covered commit e same le h = record {
+  log_on n G H j v w log covered commit e same le none h = record {
     terms = λ p one le2. omega (arith, h.terms p one le2, le);
     rooted = rooted_on G H log e h.rooted;
     holds = λ u k one le2. carries_on n G H u k log e one (h.holds u k one (omega (arith, le2, same u)));
+    own = λ k le2. elim (leb_tells w v) [
+      | inl a ↦
+          let now : v ≡ w = omega (arith, a.1, le) in
+          subst (λ z. Agree k (H.ledger z) log) now (agree_on G H v k log e (h.own k (omega (arith, le2, same w, ap (λ z. G.held z j) now))))
+      | inr a ↦
+          let zero_is : k ≡ 0 = omega (arith, le2, same w, none (omega (arith, a.1))) in
+          subst (λ c. Agree c (H.ledger w) log) (sym zero_is) (agree_none (H.ledger w) log)
+    ];
     based = h.based;
     within = h.within;
     fixed = fixed_later n H v w commit log le (fixed_on n G H v commit log e h.fixed);
@@ -137,7 +146,7 @@ module _ {C : Type 0} where
     voter = voter_on n G.ballots H.ballots i j s.term s.vote s.mode e.ballots a.ballots other h.voter;
     unstood = λ t less. a.stood j t other ∙ h.unstood t less;
     unheld = λ t less. a.held j t other ∙ h.unheld t less;
-    log = log_on n G H j s.term s.term s.log s.covered s.commit e (λ u. a.held j u other) (omega arith) h.log;
+    log = log_on n G H j s.term s.term s.log s.covered s.commit e (λ u. a.held j u other) (omega arith) (λ less. absurd (omega (arith, less))) h.log;
     role = role_on n G H j s.term s.log s.mode e (λ q. a.leaders j s.term other q) (λ q. a.ledgers j s.term other q) (a.held j s.term other) h.role;
   }
 

@@ -77,6 +77,7 @@ module _ {C : Type 0} (P : List (Entry C) → Type 0) (n : ℕ) (G : History C) 
     terms = ok.log.terms;
     rooted = ok.log.rooted;
     holds = ok.log.holds;
+    own = ok.log.own;
     based = omega (arith, ok.log.based, r.0);
     within = r.1;
     fixed = inr (record {

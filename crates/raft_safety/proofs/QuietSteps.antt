@@ -76,7 +76,7 @@ module _ {C : Type 0} (P : List (Entry C) → Type 0) (n : ℕ) (G : History C) 
           voter = v.votes.own;
           unstood = λ u less. ok.unstood u (omega (arith, less, le));
           unheld = λ u less. ok.unheld u (omega (arith, less, le));
-          log = log_on n G H i t.term t.term t.log t.covered t.commit e (λ u. refl) (omega arith) log;
+          log = log_on n G H i t.term t.term t.log t.covered t.commit e (λ u. refl) (omega arith) (λ less. absurd (omega (arith, less))) log;
           role = role_on n G H i t.term t.log t.mode e (λ q. q) (λ q. refl) refl role;
         };
         says = λ k x h. record { vote = v.says k x h; body = bodies_on n G H x.from x.to x.term x.body e (says k x h) };
@@ -90,7 +90,7 @@ module _ {C : Type 0} (P : List (Entry C) → Type 0) (n : ℕ) (G : History C) 
 
   -- a log in a later term
   log_later : (t : ℕ) → s.term ≤ t → LogOk n G i t s.log s.covered s.commit
-  log_later t le = log_on n G G i s.term t s.log s.covered s.commit (extends_none G) (λ u. refl) le ok.log
+  log_later t le = log_on n G G i s.term t s.log s.covered s.commit (extends_none G) (λ u. refl) le (ok.unheld t) ok.log
 
   -- a greater term
   pub raise_keeps : (t : ℕ) (out : List (Message C)) → s.term < t → out ≡ [] →
@@ -106,7 +106,7 @@ module _ {C : Type 0} (P : List (Entry C) → Type 0) (n : ℕ) (G : History C) 
   -- a compaction
   pub cover_keeps : (out : List (Message C)) → out ≡ [] → VotesKept n G.ballots i (compacted s) out → KeepsHistory P n G i (compacted s) out
   cover_keeps out o v = quiet _ out v (omega arith)
-      (record { terms = ok.log.terms; rooted = ok.log.rooted; holds = ok.log.holds; based = omega arith; within = ok.log.within; fixed = ok.log.fixed }) ok.role (no_bodies out o)
+      (record { terms = ok.log.terms; rooted = ok.log.rooted; holds = ok.log.holds; own = ok.log.own; based = omega arith; within = ok.log.within; fixed = ok.log.fixed }) ok.role (no_bodies out o)
 
   -- who does nothing owes nothing
   idle_role : (mode : Mode) → KnowsNothing mode → ModeOk n G i s.term s.log mode
@@ -124,6 +124,7 @@ module _ {C : Type 0} (P : List (Entry C) → Type 0) (n : ℕ) (G : History C) 
         terms = ok.log.terms;
         rooted = ok.log.rooted;
         holds = ok.log.holds;
+        own = ok.log.own;
         based = omega arith;
         within = omega (arith, ok.log.based, ok.log.within);
         fixed = fixed_less n G s.term s.commit s.covered s.log ok.log.based ok.log.fixed;

@@ -45,7 +45,7 @@ unfolding Quorum
 lone n i f two h q = omega (arith, two, q, count_lone n i f h)
 
 -- what the search passes over fails the test
-greatest_last : (test : ℕ → Bool) (low high k : ℕ) → low < k → greatest test low high < k → k ≤ high → test k ≡ true → ⊥
+pub greatest_last : (test : ℕ → Bool) (low high k : ℕ) → low < k → greatest test low high < k → k ≤ high → test k ≡ true → ⊥
 unfolding greatest
 greatest_last test low zero k some above le t = omega (arith, some, le)
 greatest_last test low (suc high) k some above le t = elim (bool_cases (nat_lt low (suc high) && test (suc high))) [

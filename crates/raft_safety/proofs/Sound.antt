@@ -20,11 +20,16 @@ unfolding commands
 commands_length [] = refl
 commands_length (e ∷ log) = ap suc (commands_length log)
 
+-- of two parts, one after the other
+pub commands_append : {C : Type 0} (xs ys : List (Entry C)) → commands (xs ++ ys) ≡ commands xs ++ commands ys
+unfolding commands
+commands_append [] ys = refl
+commands_append (x ∷ xs) ys = ap (λ l. x.command ∷ l) (commands_append xs ys)
+
 -- one more
 commands_push : {C : Type 0} (log : List (Entry C)) (e : Entry C) → commands (log ++ e ∷ []) ≡ commands log ++ e.command ∷ []
 unfolding commands
-commands_push [] e = refl
-commands_push (a ∷ log) e = ap (λ l. a.command ∷ l) (commands_push log e)
+commands_push log e = commands_append log (e ∷ [])
 
 module _ {S C : Type 0} (m : Meaning S C) where
   -- the empty log

@@ -45,7 +45,7 @@ first_ledgers n = record {
 -- each server is borne out by it
 first_server : {C : Type 0} (n j : ℕ) → let s : Raft C = newcomer in let G : History C = no_history in Voter n no_ballots j s.term s.vote s.mode → ServerOk n G j s
 unfolding no_history Rooted ModeOk
-first_server n j v = record {
+first_server {C = C} n j v = record {
   voter = v;
   unstood = λ t less. refl;
   unheld = λ t less. refl;
@@ -53,6 +53,7 @@ first_server n j v = record {
     terms = λ p one le. absurd (omega (arith, one, le));
     rooted = λ p one le. absurd (omega (arith, one, le));
     holds = λ u k one le. absurd (omega (arith, one, le));
+    own = λ k le. subst (λ c. Agree {C = C} c [] []) (let e : 0 ≡ k = omega (arith, le) in e) (agree_none [] []);
     based = omega arith;
     within = omega arith;
     fixed = inl refl;

@@ -216,12 +216,18 @@ module _ {C : Type 0} (P : List (Entry C) → Type 0) (n : ℕ) (G : History C) 
       ]
     ]
 
+    -- in its own term
+    X_own : (k : ℕ) → k ≤ H.held s.term i → Agree k (H.ledger s.term) X
+    unfolding H write
+    X_own k le = subst (λ Y. Agree k Y X) (sym (at_same G.ledger s.term X)) (agree_less k (omega (arith, le, both_same G.held s.term i (length X))) (agree_self X))
+
     -- its log
     X_log : LogOk n H i s.term X s.covered s.commit
     X_log = record {
       terms = X_terms;
       rooted = X_rooted;
       holds = X_holds;
+      own = X_own;
       based = ok.log.based;
       within = omega (arith, ok.log.within, size);
       fixed = fixed_grow n H s.term s.commit s.log X (longer s.commit ok.log.within) (fixed_on n G H s.term s.commit s.log extends ok.log.fixed);

@@ -22,6 +22,11 @@ abbrev pub levels : {X : Type 0} → Tree X → ℕ
 levels Leaf = 0
 levels (Fork' p left row height right) = suc (max (levels left) (levels right))
 
+-- how many the topmost fork has noted
+abbrev pub noted : {X : Type 0} → Tree X → ℕ
+noted Leaf = 0
+noted (Fork' p left row height right) = height
+
 -- two sides of which neither has more than so many levels more than the other
 abbrev pub AreWithin : {X : Type 0} → ℕ → Tree X → Tree X → Type 0
 AreWithin k left right = (levels left ≤ k + levels right) × (levels right ≤ k + levels left)

@@ -18,6 +18,8 @@ module _ {C : Type 0} (n : ℕ) (G : History C) where
     pub rooted : Rooted G.ledger log
     -- what was acknowledged is still there, or can't be chosen any more
     pub holds : (u k : ℕ) → 1 ≤ k → k ≤ G.held u j → HasOrDead n G u k log
+    -- what was acknowledged in its own term is there, whatever term its entries have
+    pub own : (k : ℕ) → k ≤ G.held term j → Agree k (G.ledger term) log
     pub based : covered ≤ commit
     pub within : commit ≤ length log
     pub fixed : Fixed n G term commit log

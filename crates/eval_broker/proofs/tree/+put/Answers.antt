@@ -1,5 +1,5 @@
 use Rattle.std.proofs.Common.{is_some, ◌≡◌, suc, ◌++◌, ◌∷◌, T, sym, ap, subst, ◌∙◌, arith, rules}
-use Rattle.std.specs.Prelude.{◌||◌, ◌<◌, max, nat_lt}
+use Rattle.std.specs.Prelude.{◌||◌, max, nat_lt}
 use Rattle.std.specs.declared.cmp.Ordering.TheVariants.{Less, Equal, Greater}
 use Rattle.rows.specs.Rising.{is_rising}
 use Rattle.fsm_tables.specs.Rows.{row_of, put}
@@ -8,8 +8,8 @@ use Rattle.eval_broker.specs.Inner.Trees.{tree_rows, levels, IsBalanced, chain_l
 use Rattle.eval_broker.proofs.Splits.{rising_front, rising_back, row_of_left, row_of_right, put_left, put_middle, put_right}
 use Rattle.eval_broker.proofs.tree.+put.Goals as goal
 
-pub put-requires : goal.put-requires
-put-requires g t c κs within =
+pub put-has_changed-requires : goal.put-has_changed-requires
+put-has_changed-requires g t c κs within =
     let R = g.T.Key.Ord.cmp in
     let key = g.T.Row.key_of in
     let here = c.deref_mut.result.now in
@@ -35,8 +35,8 @@ put-requires g t c κs within =
       ),
     )
 
-pub put-requires-in-Greater : goal.put-requires-in-Greater
-put-requires-in-Greater g t c κs within =
+pub put-has_changed-requires-in-Greater : goal.put-has_changed-requires-in-Greater
+put-has_changed-requires-in-Greater g t c κs within =
     let R = g.T.Key.Ord.cmp in
     let key = g.T.Row.key_of in
     let here = c.deref_mut-in-Greater.result.now in
@@ -69,7 +69,7 @@ returns-in-Less-clause-rows g t c =
     let here = c.deref_mut.result.now in
     let is : tree_rows c.args.tree.now ≡ tree_rows here.left ++ here.row ∷ tree_rows here.right = search rules in
     let order : R (key c.args.row) (key here.row) ≡ Less = search rules in
-    c.rebalance.ensures.rows ∙ ap (λ zs. zs ++ here.row ∷ tree_rows here.right) c.put.ensures.rows
+    c.rebalance.ensures.rows ∙ ap (λ zs. zs ++ here.row ∷ tree_rows here.right) c.put-has_changed.ensures.rows
     ∙ sym (ap (put R key c.args.row) is ∙ put_left R key g.met.T.Key.Ord.total c.args.row (tree_rows here.left) here.row (tree_rows here.right) order)
 
 pub returns-in-Equal-clause-rows : goal.returns-in-Equal-clause-rows
@@ -90,5 +90,5 @@ returns-in-Greater-clause-rows g t c =
     let is : tree_rows c.args.tree.now ≡ tree_rows here.left ++ here.row ∷ tree_rows here.right = search rules in
     let rising = subst (λ zs. T (is_rising R key zs)) is c.requires.rising in
     let order : R (key c.args.row) (key here.row) ≡ Greater = search rules in
-    c.rebalance-in-Greater.ensures.rows ∙ ap (λ zs. tree_rows here.left ++ here.row ∷ zs) c.put-in-Greater.ensures.rows
+    c.rebalance-in-Greater.ensures.rows ∙ ap (λ zs. tree_rows here.left ++ here.row ∷ zs) c.put-has_changed-in-Greater.ensures.rows
     ∙ sym (ap (put R key c.args.row) is ∙ put_right R key g.met.T.Key.Ord.total c.args.row (tree_rows here.left) here.row (tree_rows here.right) rising order)

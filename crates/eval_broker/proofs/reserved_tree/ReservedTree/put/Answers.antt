@@ -10,11 +10,11 @@ invariant_of-self g c =
     let R = g.T.Key.Ord.cmp in
     let key = g.T.Row.key_of in
     record {
-      rising = subst (λ zs. T (is_rising R key zs)) (sym c.put.ensures.rows) (rising_put R key g.met.T.Key.Ord.total c.args.row (tree_rows c.self.inside.tree) c.self.invariant.rising);
-      capacity = c.self.invariant.capacity ∙ sym c.put.ensures.kept;
-      balanced = c.put.ensures.balanced;
-      levels = at_most_91 c.put.new.tree c.put.ensures.balanced (omega (arith, c.self.invariant.capacity, c.put.ensures.kept));
+      rising = subst (λ zs. T (is_rising R key zs)) (sym c.put-is_higher.ensures.rows) (rising_put R key g.met.T.Key.Ord.total c.args.row (tree_rows c.self.inside.tree) c.self.invariant.rising);
+      capacity = c.self.invariant.capacity ∙ sym c.put-is_higher.ensures.kept;
+      balanced = c.put-is_higher.ensures.balanced;
+      levels = at_most_91 c.put-is_higher.new.tree c.put-is_higher.ensures.balanced (omega (arith, c.self.invariant.capacity, c.put-is_higher.ensures.kept));
     }
 
-pub put-requires-clause-low : goal.put-requires-clause-low
-put-requires-clause-low g c = omega (arith, c.self.invariant.levels)
+pub put-is_higher-requires-clause-low : goal.put-is_higher-requires-clause-low
+put-is_higher-requires-clause-low g c = omega (arith, c.self.invariant.levels)

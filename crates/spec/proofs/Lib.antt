@@ -1,0 +1,10 @@
+pub mod Starts
+pub mod Outs
+pub mod Deliveries
+pub mod Born
+pub mod Steps
+pub mod Runs
+pub mod Logs
+pub mod Safety
+pub mod Fencing
+pub mod Visible
