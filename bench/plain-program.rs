@@ -1,5 +1,5 @@
 //! A plain program of the same rules as `nomadsim run FILE`, for groups without clients whose log
-//! holds no-ops alone: what a message costs is measured beside it (docs/CHECKS.md). Nothing here is
+//! holds no-ops alone: what a message costs is measured beside it (bench/README.md). Nothing here is
 //! proved. `rustc -O --edition 2024 bench/plain-program.rs -o plain`, and then `plain run FILE`.
 //!
 //! It reads the same files, writes and reads the same frames with the same checks, keeps each frame
