@@ -37,6 +37,7 @@ told g node id p = record {
   plan = p.plan;
   place = p.place;
   term = (let e = p.entry in e.term);
+  one = p.one;
   plan_is = take_get g.committed g.log (id.index - 1) (omega (arith, p.one, p.committed)) ∙ (p.entry_is ∙ ap (λ (c : Command). Some (record { term = (let e = p.entry in e.term); command = c })) p.plan_is);
   place_is = p.place_is;
   on = p.on;

@@ -34,6 +34,7 @@ pub record IsAllocated (g : SpecState) (node : ℕ) (id : AllocId) : Type 0 wher
   pub term : ℕ
   pub plan : AcceptedPlan
   pub place : AcceptedPlace
+  pub one : 1 ≤ id.index
   pub plan_is : IsPlanAt (take g.committed g.log) (id.index - 1) term plan
   pub place_is : slice_get plan.places id.slot ≡ Some place
   pub on : place.node ≡ node
