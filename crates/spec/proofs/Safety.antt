@@ -28,7 +28,7 @@ record Holds (n c : ℕ) (g : SpecState) : Type 0 where
   applied : (i k : ℕ) → slice_get g.applied i ≡ Some (Some k) → k ≤ g.committed
   terms : (p : ℕ) (d e : Entry Command) → slice_get g.log p ≡ Some d → slice_get g.log (suc p) ≡ Some e → d.term ≤ e.term
   safe : (k : ℕ) → Safe (state_of (take k g.log))
-  backed : (p : ℕ) (e : Entry Command) (plan : AcceptedPlan) → slice_get g.log p ≡ Some e → e.command ≡ commands.Plan plan → WasOutstanding n c g.log p e.term plan
+  backed : (p : ℕ) (e : Entry Command) (plan : AcceptedPlan) → slice_get g.log p ≡ Some e → e.command ≡ commands.Plan plan → WasOutstanding n c g p e.term plan
   placed : (k : ℕ) (ids : List AllocId) (j : ℕ) (id : AllocId) → slice_get g.started k ≡ Some ids → slice_get ids j ≡ Some id → IsPlaced g (suc k) id
   once : (k : ℕ) (ids : List AllocId) (i j : ℕ) (id : AllocId) → slice_get g.started k ≡ Some ids → slice_get ids i ≡ Some id → slice_get ids j ≡ Some id → i ≡ j
 
@@ -78,6 +78,19 @@ module _ (n c : ℕ) where
     on = p.on;
   }
 
+  -- what was appended before was so still, after an action that appends nothing
+  later : (g h : SpecState) → Action g h → h.log ≡ g.log → (p term : ℕ) (plan : AcceptedPlan) → WasOutstanding n c g p term plan → WasOutstanding n c h p term plan
+  later g h a same p term plan b = record {
+    then = b.then;
+    next = b.next;
+    before = b.before;
+    append = b.append;
+    after = more b.after a;
+    had = b.had ∙ ap (take p) (sym same);
+    has = b.has ∙ ap (take (suc p)) (sym same);
+    out = b.out;
+  }
+
   safe_more : (A : List (Entry Command)) (e : Entry Command) → ((k : ℕ) → Safe (state_of (take k A))) → admission (state_of A) e.command ≡ None → (k : ℕ) → Safe (state_of (take k (A ++ e ∷ [])))
   safe_more A e safe admitted k = elim (leb_tells k (length A)) [
     | inl a ↦ subst (λ l. Safe (state_of l)) (take_append k A (e ∷ []) a.1) (safe k)
@@ -102,13 +115,13 @@ module _ (n c : ℕ) where
     ];
     safe = safe_more g.log e was.safe f.admitted;
     backed = λ p d plan at is. elim (get-where g.log (e ∷ []) p d at) [
-      | inl q ↦ let b = was.backed p d plan q.1 is in record { then = b.then; before = b.before; had = b.had ∙ take_append p g.log (e ∷ []) (omega (arith, q.0)); out = b.out }
+      | inl q ↦ let b = was.backed p d plan q.1 is in record { then = b.then; next = b.next; before = b.before; append = b.append; after = more b.after (appends e f); had = b.had ∙ take_append p g.log (e ∷ []) (omega (arith, q.0)); has = b.has ∙ take_append (suc p) g.log (e ∷ []) (omega (arith, q.0)); out = b.out }
       | inr q ↦
           let inside = get-within (g.log ++ e ∷ []) p d at in
           let now : p ≡ length g.log = omega (arith, q.0, inside, push_length g.log e) in
           let same : e ≡ d = get-one e q.1.0 d q.1.1 in
           let out : g.outstanding d.term plan.eval ≡ Some plan.token = subst (λ (v : Entry Command). g.outstanding v.term plan.eval ≡ Some plan.token) same (f.token plan (ap (λ (v : Entry Command). v.command) same ∙ is)) in
-          record { then = g; before = came; had = sym (take_all p g.log (omega (arith, now))) ∙ take_append p g.log (e ∷ []) (omega (arith, now)); out = out }
+          record { then = g; next = h; before = came; append = appends e f; after = none; had = sym (take_all p g.log (omega (arith, now))) ∙ take_append p g.log (e ∷ []) (omega (arith, now)); has = sym (take_all (suc p) (g.log ++ e ∷ []) (omega (arith, now, push_length g.log e))); out = out }
     ];
     placed = λ k ids j id at there. stays g h (suc k) id (omega arith) (λ i d w. get-more g.log (e ∷ []) i d w) (was.placed k ids j id at there);
     once = was.once;
@@ -118,7 +131,7 @@ module _ (n c : ℕ) where
     applied = λ i j at. omega (arith, rise, was.applied i j at);
     terms = was.terms;
     safe = was.safe;
-    backed = was.backed;
+    backed = λ q e plan at is. later g h (commits k rise fits) refl q e.term plan (was.backed q e plan at is);
     placed = λ c ids j id at there. stays g h (suc c) id rise (λ i d w. w) (was.placed c ids j id at there);
     once = was.once;
   }
@@ -130,7 +143,7 @@ module _ (n c : ℕ) where
     ];
     terms = was.terms;
     safe = was.safe;
-    backed = was.backed;
+    backed = λ q e plan at is. later g h (at_server i old new here m) refl q e.term plan (was.backed q e plan at is);
     placed = λ c ids j id at there. stays g h (suc c) id (omega arith) (λ i d w. w) (was.placed c ids j id at there);
     once = was.once;
   } where
@@ -143,7 +156,7 @@ module _ (n c : ℕ) where
     applied = was.applied;
     terms = was.terms;
     safe = was.safe;
-    backed = was.backed;
+    backed = λ q e plan at is. later g h (starts d ids id here new p) refl q e.term plan (was.backed q e plan at is);
     placed = λ k all j x at there. elim (get_set-cases g.started d (ids ++ id ∷ []) k all at) [
       | inl q ↦
           let there_too : slice_get (ids ++ id ∷ []) j ≡ Some x = ap (λ l. slice_get l j) q.1 ∙ there in
@@ -178,7 +191,7 @@ module _ (n c : ℕ) where
     applied = was.applied;
     terms = was.terms;
     safe = was.safe;
-    backed = was.backed;
+    backed = λ q e plan at is. later g h (delivers eval token k le pending free newest) refl q e.term plan (was.backed q e plan at is);
     placed = λ c ids j id at there. stays g h (suc c) id (omega arith) (λ i d w. w) (was.placed c ids j id at there);
     once = was.once;
   }
@@ -187,7 +200,7 @@ module _ (n c : ℕ) where
     applied = was.applied;
     terms = was.terms;
     safe = was.safe;
-    backed = was.backed;
+    backed = λ q e plan at is. later g h (ends outstanding stays_so) refl q e.term plan (was.backed q e plan at is);
     placed = λ c ids j id at there. stays g h (suc c) id (omega arith) (λ i d w. w) (was.placed c ids j id at there);
     once = was.once;
   }

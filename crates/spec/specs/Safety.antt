@@ -1,5 +1,5 @@
--- What holds of the specification alone, whatever it does. These claims use no word of the
--- specification's own actions, so that each is a check of them.
+-- What holds of the specification alone, whatever it does. These claims use none of the conditions
+-- under which it acts, so that each is a check of them.
 use Rattle.std.specs.Prelude.{◌≡◌, ℕ, suc, ◌-◌, ◌<◌, ◌≤◌, true, Some, List, length, take, slice_get}
 use Rattle.rows.specs.declared.evaluation.EvalId.{EvalId}
 use Rattle.rows.specs.declared.evaluation.Evaluation.{Evaluation}
@@ -21,12 +21,16 @@ IsPlanAt log p term plan =
 
 -- ---- the log, servers and clients
 
--- when the log was just its first p entries, the plan's evaluation was outstanding under its token
-pub record WasOutstanding (n c : ℕ) (log : List (Entry Command)) (p term : ℕ) (plan : AcceptedPlan)
-    : Type 0 where
+-- on the way to g the plan was appended as entry p, and just before its evaluation was outstanding
+-- under its token
+pub record WasOutstanding (n c : ℕ) (g : SpecState) (p term : ℕ) (plan : AcceptedPlan) : Type 0 where
   pub then : SpecState
+  pub next : SpecState
   pub before : Actions (init n c) then
-  pub had : then.log ≡ take p log
+  pub append : Action then next
+  pub after : Actions next g
+  pub had : then.log ≡ take p g.log
+  pub has : next.log ≡ take (suc p) g.log
   pub out : then.outstanding term plan.eval ≡ Some plan.token
 
 -- place `id.slot` of the committed plan that is entry `id.index`, from 1, is on the node
@@ -50,7 +54,7 @@ pub record IsSafe (n c : ℕ) (g : SpecState) : Type 0 where
   pub safe : (k : ℕ) → Safe (state_of (take k g.log))
   -- each plan was appended under an outstanding token
   pub backed : (p term : ℕ) (plan : AcceptedPlan) →
-      IsPlanAt g.log p term plan → WasOutstanding n c g.log p term plan
+      IsPlanAt g.log p term plan → WasOutstanding n c g p term plan
   -- what a client ever started is placed on its node, and it started it once
   pub placed : (k : ℕ) (ids : List AllocId) (j : ℕ) (id : AllocId) →
       slice_get g.started k ≡ Some ids → slice_get ids j ≡ Some id → IsAllocated g (suc k) id
