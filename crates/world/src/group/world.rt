@@ -515,7 +515,7 @@ impl World {
     }
 
     /// Whatever the group has shown, moment by moment, is what the specification shows: one state
-    /// machine of one page (`spec`). `new` begins what is shown, `step` goes on with it, and
+    /// machine of two pages (`spec`). `new` begins what is shown, `step` goes on with it, and
     /// `state`, `clients` and `sent` answer what is shown last. (Abadi and Lamport, "The Existence
     /// of Refinement Mappings", 1991.)
     pub fn shows_the_spec(&self)
