@@ -1,15 +1,11 @@
 -- What a group has shown.
-use Rattle.std.proofs.Common.{◌≡◌, ℕ, zero, suc, ◌⊎◌, inl, inr, Bor, Result, Ok, Err, IfOk, OnErr, Option, Some, None, List, [], ◌∷◌, ◌++◌, length, map, refl, sym, ap, ◌∙◌, subst, slice_get}
-use Rattle.std.specs.List.{AllZip}
-use Rattle.std.specs.Option.{option_copied}
+use Rattle.std.proofs.Common.{◌≡◌, ℕ, inl, inr, Result, Ok, Err, IfOk, OnErr, Option, Some, None, List, [], ◌∷◌, ◌++◌, length, map, refl, sym, ap, ◌∙◌, subst, slice_get}
 use Rattle.rows.specs.declared.node.NodeSpec.{NodeSpec}
 use Rattle.rows.specs.declared.refusal.Refusal.{Refusal}
-use Rattle.cluster_model.specs.Words.{State}
-use Rattle.group_model.specs.Agents.{Agent}
 use Rattle.group_model.specs.Servers.{Server}
-use Rattle.group_model.specs.Worlds.{World, Event, first, raft_of, raft_part}
+use Rattle.group_model.specs.Worlds.{World, Event, first, raft_part}
 use Rattle.group_safety.specs.Claims.{EachRun}
-use Rattle.group_safety.specs.Limits.{NodesFit, LimitedRun, LimitsAreKept, start, more}
+use Rattle.group_safety.specs.Limits.{LimitedRun, LimitsAreKept, start, more}
 use Rattle.group_safety.proofs.Lists.{get_map, map_append, map_length}
 use Rattle.client_agent.specs.AgentView.{AgentView}
 use Rattle.server.specs.ServerViews.{SameServer}
@@ -17,10 +13,10 @@ use Rattle.spec.specs.Visible.{Visible, Behavior}
 use Rattle.spec.specs.Refinement.{started_by, state_shown, visible_in, ShowsSpec}
 use Rattle.world.specs.declared.done.Done.{Done}
 use Rattle.world.specs.declared.done.Done.TheVariants.{Taken, Crashed}
-use Rattle.world.specs.GroupView.{GroupView, RepresentsGroup, GroupRunsTo, IsGroupWorld, nodes_of, node_in, client_in}
-use Rattle.world.specs.GroupSteps.{GroupEventHappened, GroupActorCrashed, GroupStaysDown, IsGroupDone, SameView, IsNewGroup}
+use Rattle.world.specs.GroupView.{GroupView, GroupRunsTo, IsGroupWorld, nodes_of, node_in, client_in}
+use Rattle.world.specs.GroupSteps.{GroupEventHappened, IsGroupDone, SameView, IsNewGroup}
 use Rattle.world.specs.GroupClaims.{OneGroupList, state_of}
-use Rattle.world.specs.GroupShown.{HasShown, ShownAfter, OfTheLast, state_at, seen_state, started_in, CarryDeliveries, ShownBySpec}
+use Rattle.world.specs.GroupShown.{HasShown, ShownAfter, OfTheLast, seen_state, started_in, CarryDeliveries, ShownBySpec}
 use Rattle.world.proofs.GroupRuns.{group_run_is_one}
 use Rattle.world.proofs.GroupStates.{get_map_none}
 use Rattle.world.proofs.Runs.{ends_alike, no_end}

@@ -1,5 +1,5 @@
 -- What is proved of all runs of the definitions is so of a value's.
-use Rattle.std.proofs.Common.{ℕ, ◌≤◌, Bool, List, length, inl, inr, arith}
+use Rattle.std.proofs.Common.{ℕ, ◌≤◌, Bool, length, inl, inr, arith}
 use Rattle.machine_model.specs.Meaning.{Meaning}
 use Rattle.rows.specs.GroupSizes.{IsGroup}
 use Rattle.raft_model.specs.Quorums.{Quorum}

@@ -1,4 +1,4 @@
-use Rattle.std.proofs.Common.{◌≡◌, ◌+◌, ◌≤◌, Bool, true, List, length, MatchBool, subst}
+use Rattle.std.proofs.Common.{◌≡◌, ◌+◌, ◌≤◌, true, List, length, MatchBool, subst}
 use Rattle.raft_model.specs.Logs.{MAX}
 use Rattle.raft_model.specs.Worlds.{World}
 use Rattle.raft_core.specs.Steps.{Represents}
