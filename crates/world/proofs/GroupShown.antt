@@ -25,13 +25,16 @@ use Rattle.world.proofs.Zips.{zip_length}
 -- ---- what was shown first
 
 pub shown_first : (n : ℕ) (nodes : List NodeSpec) (view : GroupView) → IsNewGroup n nodes view → (now : Visible) × HasShown view (now ∷ [])
-shown_first n nodes view new = (visible_in (first n (nodes_of view)), record {
-  past = [];
-  world = first n (nodes_of view);
-  run = subst (λ l. LimitedRun (length view.servers) (nodes_of view) l [] (first n (nodes_of view))) (sym new.trace)
-      (subst (λ m. LimitedRun m (nodes_of view) [] [] (first n (nodes_of view))) (sym new.count) start);
-  is = refl;
-})
+shown_first n nodes view new = (
+  visible_in (first n (nodes_of view)),
+  record {
+    past = [];
+    world = first n (nodes_of view);
+    run = subst (λ l. LimitedRun (length view.servers) (nodes_of view) l [] (first n (nodes_of view))) (sym new.trace)
+        (subst (λ m. LimitedRun m (nodes_of view) [] [] (first n (nodes_of view))) (sym new.count) start);
+    is = refl;
+  },
+)
 
 -- ---- and next
 
@@ -48,13 +51,15 @@ module _ (old new : GroupView) (size : length new.servers ≡ length old.servers
       let b = before_last (length new.servers) (nodes_of new) new.trace past w runs.run old.trace e trace in
       let was = subst (λ m. LimitedRun m (nodes_of new) old.trace h.past h.world) (sym size) (subst (λ l. LimitedRun (length old.servers) l old.trace h.past h.world) (sym nodes) h.run) in
       let same = group_run_is_one (length new.servers) (nodes_of new) old.trace old.trace h.past b.0 h.world b.1 refl was b.3 in
-      let all : h.past ++ h.world ∷ [] ≡ past = (λ i. same.0 i ++ same.1 i ∷ []) ∙ sym b.2 in
-      (visible_in w, record {
-        past = past;
-        world = w;
-        run = runs.run;
-        is = ap (λ l. l ++ visible_in w ∷ []) (h.is ∙ ap (map visible_in) all) ∙ sym (map_append visible_in past (w ∷ []));
-      })
+      let all : h.past ++ h.world ∷ [] ≡ past = (λ i. same.0 i ++ same.1 i ∷ []) ∙ sym b.2 in (
+        visible_in w,
+        record {
+          past = past;
+          world = w;
+          run = runs.run;
+          is = ap (λ l. l ++ visible_in w ∷ []) (h.is ∙ ap (map visible_in) all) ∙ sym (map_append visible_in past (w ∷ []));
+        },
+      )
 
   shown_still : new.trace ≡ old.trace → (shown : List Visible) → HasShown old shown → HasShown new shown
   shown_still trace shown h = record {

@@ -13,7 +13,7 @@ returns-clause-value g c =
     let m = g.M.Machine.meaning in
     let b = c.rafts_have_room.result in
     subst (λ (x : WorldView g.row.M.Denot g.row.M-Command.Denot). (past : List (World g.row.M-Command.Denot)) (w : World g.row.M-Command.Denot) → RunsTo g.M.Machine.meaning x past w →
-        MatchBool c.rafts_have_room.result (HasRoom (length x.servers) everybody w) (HasRoom (length x.servers) everybody w → ⊥)) c.self.view_is
+    MatchBool c.rafts_have_room.result (HasRoom (length x.servers) everybody w) (HasRoom (length x.servers) everybody w → ⊥)) c.self.view_is
     (λ past w runs. room_told m _ w b runs.represents (subst (λ l. MatchBool c.rafts_have_room.result (EachHas (Represents g.M.Machine.meaning) RaftHasRoom l) (OneLacks (Represents g.M.Machine.meaning) RaftHasRoom l)) c.deref.ensures.value c.rafts_have_room.ensures))
 
 pub returns-clause-short : goal.returns-clause-short

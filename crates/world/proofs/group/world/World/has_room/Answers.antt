@@ -12,7 +12,7 @@ pub returns-clause-value : goal.returns-clause-value
 returns-clause-value c =
     let b = c.servers_have_room.result in
     subst (λ (x : GroupView). (past : List World) (w : World) → GroupRunsTo x past w →
-        MatchBool c.servers_have_room.result (HasRoom (length x.servers) everybody (raft_of w)) (HasRoom (length x.servers) everybody (raft_of w) → ⊥)) c.self.view_is
+    MatchBool c.servers_have_room.result (HasRoom (length x.servers) everybody (raft_of w)) (HasRoom (length x.servers) everybody (raft_of w) → ⊥)) c.self.view_is
     (λ past w runs. group_room_told _ w b runs.represents (subst (λ l. MatchBool c.servers_have_room.result (EachHas IsServer ServerHasRoom l) (OneLacks IsServer ServerHasRoom l)) c.deref.ensures.value c.servers_have_room.ensures))
 
 pub returns-clause-short : goal.returns-clause-short
