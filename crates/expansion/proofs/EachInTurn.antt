@@ -1,5 +1,5 @@
 -- What comes of each of a list, one by one.
-use Rattle.std.proofs.Common.{◌≡◌, ◌∙◌, ◌+◌, ◌<◌, ◌≤◌, ◌++◌, ◌∷◌, ℕ, zero, suc, List, [], ap, ap₂, append_assoc, arith, get_or, length, length-append, refl, sym, take}
+use Rattle.std.proofs.Common.{◌≡◌, ◌∙◌, ◌<◌, ◌++◌, ◌∷◌, ℕ, zero, suc, List, [], ap, ap₂, append_assoc, arith, get_or, length, refl, sym, take}
 use Rattle.std.proofs.lemmas.List.{append-nil}
 use Rattle.expansion.specs.EachInTurn.{OfEach}
 

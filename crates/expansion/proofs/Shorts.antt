@@ -1,6 +1,6 @@
 -- What the values among the steps of a scenario in short form come to.
 use Rattle.std.proofs.Common.{◌≡◌, ◌≢◌, ◌∙◌, ◌+◌, ◌*◌, ◌-◌, ◌<◌, ◌≤◌, ◌++◌, ◌∷◌, ℕ, zero, suc, List, [], None, Some, ap, ap₂, append_assoc, arith, codes, decimal, get_or, inl, inr, length, length-append, map, refl, subst, sum_by, sym, take}
-use Rattle.std.proofs.lemmas.List.{append-nil, append_cancel_left, get_or-map, length-map, length-take-le, map-append, take-map, take_more}
+use Rattle.std.proofs.lemmas.List.{append-nil, append_cancel_left, get_or-map, length-map, map-append, take-map, take_more}
 use Rattle.std.proofs.lemmas.List.Sums.{sum_by-append}
 use Rattle.std.proofs.lemmas.Fmt.{decimal_injective}
 use Rattle.std.proofs.Math.Nat.{suc-mul}

@@ -45,9 +45,18 @@ pub fn read_within<R: Read + Drop>(alloc: Global, reader: R) -> io::Result<Optio
         (FILE_BYTES < length known)
         (λ bytes. (length known ≤ FILE_BYTES) × (bytes.items ≡ known)))) }
 {
-    let mut bytes = Vec::new(alloc);
-    reader.take(FILE_BYTES + 1).read_to_end(&mut bytes)?;
+    let bytes = read_all(alloc, reader.take(FILE_BYTES + 1))?;
     Ok(within(bytes))
+}
+
+// All bytes of a reader.
+fn read_all<R: Read + Drop>(alloc: Global, reader: R) -> io::Result<Vec<u8>>
+    ensures { IfSome (R.remaining reader) (λ known. IfOk result (λ bytes. bytes.items ≡ known)) }
+{
+    let mut reader = reader;
+    let mut bytes = Vec::new(alloc);
+    reader.read_to_end(&mut bytes)?;
+    Ok(bytes)
 }
 
 // Bytes of a file that is read, if they are no more than it may have.

@@ -1,11 +1,10 @@
-use Rattle.std.proofs.Common.{◌≡◌, ◌≢◌, ◌-◌, ◌<◌, ◌≤◌, ◌++◌, ◌∷◌, [], Err, IsTrue, List, arith, inl, inr, length, map, refl, rules}
+use Rattle.std.proofs.Common.{◌≡◌, ◌≢◌, ◌<◌, ◌++◌, ◌∷◌, [], Err, IsTrue, inl, inr, length, map, refl, rules}
 use Rattle.std.specs.List.{repeat}
 use Rattle.serde_json.specs.View.{items_view, view}
 use Rattle.expansion.specs.declared.short.Part.TheVariants.{Step, Repeat}
 use Rattle.expansion.specs.Inner.Parts.{IsPartOf}
 use Rattle.expansion.specs.Inner.Totals.{IsTotal}
-use Rattle.expansion.specs.ShortSteps.{Short, short_step}
-use Rattle.expansion.specs.Shorts.{AreSteps}
+use Rattle.expansion.specs.ShortSteps.{short_step}
 use Rattle.expansion.proofs.Shorts.{line_comes, list_comes, next_comes, none_at, none_deeper, repeat_comes, too_many}
 use Rattle.expansion.proofs.short.+short_steps.Goals as goal
 use Rattle.expansion.proofs.short.+short_steps.Goals.{in-Step+in_ok-put_one-in-Step, in-Repeat+else-depth-eq0+in_ok-own-in-Repeat+in_ok-put_repeated-in-Repeat}

@@ -1,4 +1,4 @@
-use Rattle.std.proofs.Common.{◌≡◌, ◌<◌, ◌≤◌, length, rules}
+use Rattle.std.proofs.Common.{◌<◌, ◌≤◌, length, rules}
 use Rattle.std.proofs.lemmas.List.{take_all}
 use Rattle.expansion.proofs.Shorts.{put_more}
 use Rattle.expansion.proofs.short.put_copies.Goals as goal

@@ -1,6 +1,4 @@
-use Rattle.std.proofs.Common.{◌≡◌, ◌+◌, ◌*◌, ◌<◌, ◌≤◌, ◌++◌, inr, map, refl, rules}
-use Rattle.std.specs.List.{repeat}
-use Rattle.expansion.specs.ShortSteps.{short_step}
+use Rattle.std.proofs.Common.{◌+◌, ◌*◌, ◌<◌, inr, refl, rules}
 use Rattle.expansion.proofs.Shorts.{put_behind, too_many_bytes, too_many_steps}
 use Rattle.expansion.proofs.short.put_repeated.Goals as goal
 
