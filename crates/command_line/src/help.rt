@@ -26,8 +26,7 @@ Examples:
 
 '-' for FILE, and for the transcript that 'replay', 'draw', 'tell' and 'inspect'
 take, is the standard input. 'nomadsim run --help' says what a scenario's file holds, and
-'nomadsim check FILE' what is wrong with one. A file that is read has at most 67108864
-bytes.
+'nomadsim check FILE' what is wrong with one.
 
 Exit status:
   0  every step was taken, or whatever else was asked for was done

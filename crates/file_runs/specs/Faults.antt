@@ -6,7 +6,7 @@ use Rattle.clap.specs.declared.error.kind.ErrorKind.TheVariants as kinds
 use Rattle.ending.specs.declared.fault.EndError.{EndError}
 use Rattle.ending.specs.declared.fault.EndError.TheVariants as ends
 use Rattle.file_runs.specs.declared.fault.Fault.{Fault}
-use Rattle.file_runs.specs.declared.fault.Fault.TheVariants.{CommandLine, CannotRead, TooLarge, CannotWrite, BadScenario, BadTranscript, NoSuchEvent, Percentages, NoMemory, Output}
+use Rattle.file_runs.specs.declared.fault.Fault.TheVariants.{CommandLine, CannotRead, CannotWrite, BadScenario, BadTranscript, NoSuchEvent, Percentages, NoMemory, Output}
 use Rattle.event_texts.specs.Transcripts.{IsFault, IsTranscript, Recorded}
 
 -- the words ask for help, or for the version
@@ -16,7 +16,6 @@ IsHelp error = (kind_of error ≡ kinds.DisplayHelp) ⊎ (kind_of error ≡ kind
 abbrev pub IsStatus : Fault → ℕ → Type 0
 IsStatus (CommandLine error) status = (IsHelp error × (status ≡ 0)) ⊎ ((¬ IsHelp error) × (status ≡ 2))
 IsStatus (CannotRead name) status = status ≡ 2
-IsStatus (TooLarge name) status = status ≡ 2
 IsStatus (CannotWrite name) status = status ≡ 2
 IsStatus BadScenario status = status ≡ 2
 IsStatus (BadTranscript place) status = status ≡ 2
@@ -33,7 +32,6 @@ IsOfRun _ = ⊤
 -- it is no fault of what is read: of a file, or of what that has
 abbrev pub IsPastReading : Fault → Type 0
 IsPastReading (CannotRead name) = ⊥
-IsPastReading (TooLarge name) = ⊥
 IsPastReading BadScenario = ⊥
 IsPastReading (BadTranscript place) = ⊥
 IsPastReading (Percentages lost repeated) = ⊥

@@ -18,9 +18,6 @@ pub enum Fault<'a> {
     /// The file of this name cannot be read.
     #[error("nomadsim: cannot read {0}\n")]
     CannotRead(&'a str),
-    /// The file of this name has more bytes than one that is read may have.
-    #[error("nomadsim: {0} has more than 67108864 bytes\n")]
-    TooLarge(&'a str),
     /// The transcript cannot be written to the file of this name.
     #[error("nomadsim: cannot write {0}\n")]
     CannotWrite(&'a str),
@@ -79,7 +76,6 @@ impl Fault<'_> {
         match self {
             Fault::CommandLine(error) => { if error.use_stderr() { 2 } else { 0 } }
             Fault::CannotRead(_) => 2,
-            Fault::TooLarge(_) => 2,
             Fault::CannotWrite(_) => 2,
             Fault::BadScenario => 2,
             Fault::BadTranscript(_) => 2,

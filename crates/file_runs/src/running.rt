@@ -121,14 +121,14 @@ fn save<'a, F: Shelf>(
     match shelf.write(name, text.as_slice()) {
         Ok(()) => Ok(()),
         Err(ShelfFault::NoMemory) => Err(Fault::NoMemory),
-        Err(_) => Err(Fault::CannotWrite(name)),
+        Err(ShelfFault::Failed) => Err(Fault::CannotWrite(name)),
     }
 }
 
 /// All bytes of a file.
 pub fn load_bytes<'a, F: Shelf>(shelf: &mut F, file: &'a str) -> Result<Vec<u8>, Fault<'a>>
     ensures fault { IfErr result (λ fault. (fault ≡ faults.NoMemory)
-        ⊎ (fault ≡ faults.CannotRead file.entry) ⊎ (fault ≡ faults.TooLarge file.entry)) }
+        ⊎ (fault ≡ faults.CannotRead file.entry)) }
     ensures bytes { IfSome (F.file shelf.old file.entry.now) (λ known.
         IfOk result (λ bytes. bytes.items ≡ known)) }
     ensures of_run { IfErr result IsOfRun }
@@ -137,7 +137,6 @@ pub fn load_bytes<'a, F: Shelf>(shelf: &mut F, file: &'a str) -> Result<Vec<u8>,
         Ok(bytes) => Ok(bytes),
         Err(ShelfFault::NoMemory) => Err(Fault::NoMemory),
         Err(ShelfFault::Failed) => Err(Fault::CannotRead(file)),
-        Err(ShelfFault::TooLarge) => Err(Fault::TooLarge(file)),
     }
 }
 

@@ -1,23 +1,12 @@
 //! The files that a run reads and writes.
-ghost use Rattle.std.specs.Prelude.{◌≡◌, ◌≤◌, ◌<◌, ◌↔◌, ℕ, IfOk, IfSome, IsTrue, List, MatchOption, None, OnOk, Option, length, option_map};
+ghost use Rattle.std.specs.Prelude.{◌≡◌, ◌↔◌, ℕ, IfOk, IfSome, IsTrue, List, None, OnOk, Option, option_map};
 ghost use Rattle.file_runs.specs.Shelves.{LieApart, MayBeMade};
-
-use std::alloc::Global;
-use std::io;
-use std::io::Read;
-
-/// How many bytes a file has at most that is read: a scenario of 1,000,000 steps of some sixty each,
-/// or a transcript of some four million events. What is read may take 120 times that of
-/// memory.
-pub const FILE_BYTES: u64 = 67_108_864;
 
 /// Why a file could not be read or written.
 #[derive(Clone, Copy, Debug, PartialEq, Eq)]
 pub enum ShelfFault {
     /// The file is missing, or cannot be read or written.
     Failed,
-    /// It is to be read, and has more than `FILE_BYTES` bytes.
-    TooLarge,
     /// There is no memory for it.
     NoMemory,
 }
@@ -36,38 +25,6 @@ pub trait Shelf {
     fn write(&mut self, name: &str, bytes: &[u8]) -> Result<(), ShelfFault>
         ensures { IfSome (file self.new name.now) (λ known.
             OnOk result (known ≡ bytes.now)) };
-}
-
-/// All bytes of a reader; none of them where they are more than `FILE_BYTES`, of which no more than
-/// one is read: a reader may never end.
-pub fn read_within<R: Read + Drop>(alloc: Global, reader: R) -> io::Result<Option<Vec<u8>>>
-    ensures { IfSome (R.remaining reader) (λ known. IfOk result (λ read. MatchOption read
-        (FILE_BYTES < length known)
-        (λ bytes. (length known ≤ FILE_BYTES) × (bytes.items ≡ known)))) }
-{
-    let bytes = read_all(alloc, reader.take(FILE_BYTES + 1))?;
-    Ok(within(bytes))
-}
-
-// All bytes of a reader.
-fn read_all<R: Read + Drop>(alloc: Global, reader: R) -> io::Result<Vec<u8>>
-    ensures { IfSome (R.remaining reader) (λ known. IfOk result (λ bytes. bytes.items ≡ known)) }
-{
-    let mut reader = reader;
-    let mut bytes = Vec::new(alloc);
-    reader.read_to_end(&mut bytes)?;
-    Ok(bytes)
-}
-
-// Bytes of a file that is read, if they are no more than it may have.
-fn within(bytes: Vec<u8>) -> Option<Vec<u8>>
-    ensures { MatchOption result (FILE_BYTES < length bytes.items)
-        (λ own. (own ≡ bytes) × (length bytes.items ≤ FILE_BYTES)) }
-{
-    if FILE_BYTES < bytes.len() as u64 {
-        return None;
-    }
-    Some(bytes)
 }
 
 /// Whether a file of this name may be made once the one of the other name was read, if one was: not

@@ -20,7 +20,7 @@ use Rattle.runner.specs.Inner.Faults.{IsFound}
 use Rattle.file_runs.specs.Plays.{TellsPlay}
 use Rattle.playing.specs.PlaySteps.{StepRefused, StepTaken}
 use Rattle.file_runs.specs.declared.fault.Fault.{Fault}
-use Rattle.file_runs.specs.declared.fault.Fault.TheVariants.{CommandLine, CannotRead, TooLarge, CannotWrite, BadScenario, BadTranscript, NoSuchEvent, Percentages, NoMemory, Output}
+use Rattle.file_runs.specs.declared.fault.Fault.TheVariants.{CommandLine, CannotRead, CannotWrite, BadScenario, BadTranscript, NoSuchEvent, Percentages, NoMemory, Output}
 use Rattle.runner.proofs.KeptShapes.{nodes_stay, size_stays}
 use Rattle.file_runs.proofs.Stages.{each_may_refuse}
 
@@ -84,7 +84,6 @@ help_is_told found (CommandLine error) status is (inr (inl (inl help, zero))) fe
 help_is_told found (CommandLine error) status is (inr (inl (inr version, zero))) few = (inr (subst (λ kind. IsAmong kind found) version is), zero)
 help_is_told found (CommandLine error) status is (inr (inr other)) few = absurd (omega (arith, other.1, few))
 help_is_told found (CannotRead name) status is (inr two) few = absurd (omega (arith, two, few))
-help_is_told found (TooLarge name) status is (inr two) few = absurd (omega (arith, two, few))
 help_is_told found (CannotWrite name) status is (inr two) few = absurd (omega (arith, two, few))
 help_is_told found BadScenario status is (inr two) few = absurd (omega (arith, two, few))
 help_is_told found (BadTranscript place) status is (inr two) few = absurd (omega (arith, two, few))
