@@ -23,7 +23,8 @@ pub const MOST: usize = 1_000_000;
 /// How many bytes the lines of these steps have at most that are taken as they stand.
 pub const MOST_BYTES: usize = 33_554_432;
 
-// How deep lists of steps may stand in each other: as deep as JSON is read.
+// How deep lists of steps may stand in each other. JSON is read 127 levels deep, of which each list
+// takes two: so none that is read is refused for its depth.
 const DEPTH: u8 = 128;
 
 /// A step of a scenario in short form, where no step is repeated any more.

@@ -176,7 +176,7 @@ fenced n c g a =
       later = λ p q term one two less at_p at_q same. k.later p q (entry term one) (entry term two) one two less at_p at_q refl refl same refl;
     }
 
--- what is outstanding is not delivered once more
+-- no other token takes the place of one that is outstanding
 one_token : (outstanding : ℕ → EvalId → Option Token) (term : ℕ) (eval : EvalId) (one two : Token) → outstanding term eval ≡ Some one → outstanding term eval ≡ Some two → one ≡ two
 one_token outstanding term eval one two a b = same_Some one two (sym a ∙ b)
 

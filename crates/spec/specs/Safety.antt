@@ -126,7 +126,7 @@ pub record IsFenced (g : SpecState) : Type 0 where
 abbrev pub TokensFence : Type 0
 TokensFence = (n c : ℕ) (g : SpecState) → Actions (init n c) g → IsFenced g
 
--- an evaluation that is outstanding is not delivered once more
+-- while an evaluation is outstanding, no other token takes its token's place
 abbrev pub OneHolder : Type 0
 OneHolder =
     (g h : SpecState) → Action g h → (term : ℕ) (eval : EvalId) (one two : Token) →

@@ -40,7 +40,7 @@ pub fn the_spec_is_safe()
 /// - `fences`: a plan is appended only under a token that was delivered for its evaluation in its
 ///   own term, and after a plan under a newer one no plan of that evaluation follows in that term
 ///   under an older one. Tokens of one term are newer and newer.
-/// - `one_holder`: an evaluation that is outstanding is not delivered once more.
+/// - `one_holder`: while an evaluation is outstanding, no other token takes its token's place.
 pub fn tokens_fence()
     ensures fences { TokensFence }
     ensures one_holder { OneHolder }
