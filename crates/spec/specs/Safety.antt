@@ -152,6 +152,7 @@ pub record HasOneHolder (g h : SpecState) (term : ℕ) (eval : EvalId) : Type 0 
   pub ended : (token : Token) → WasDelivered g eval token →
       h.outstanding term eval ≡ Some token → g.outstanding term eval ≡ Some token
 
+-- of each action
 abbrev pub OneHolder : Type 0
 OneHolder =
     (g h : SpecState) → Action g h → (term : ℕ) (eval : EvalId) → HasOneHolder g h term eval
