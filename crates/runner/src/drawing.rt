@@ -12,10 +12,10 @@ use file_runs::fault::Fault;
 use file_runs::replaying::transcript_of;
 use file_runs::running::load_bytes;
 use file_runs::shelf::Shelf;
-use inspection::event_lines;
 use picture::{DrawError, draw};
 use std::alloc::Global;
 use std::io::Write;
+use telling::event_lines;
 use transcript::Transcript;
 
 /// Draws what a transcript says, as a picture or as a page.
