@@ -22,13 +22,15 @@ module _ {K A P I M : Type 0} (actors : Actors K A P I M) (same_name : (j k : K)
   -- there is a group in which one process is another
   becoming : (g : System actors) (k : K) (store : P) (life : Life actors) (left : List M) (told : List (Told actors)) → (h : System actors) × Becomes actors g k store life left told h
   becoming g k store life left told =
-      let p : Process actors = record { store = store; life = life } in
-      (record { process = λ j. choose j k (same_name j k) p (g.process j); left = left; told = told }, record {
-        here = chosen k k (same_name k k) p (g.process k) refl;
-        others = λ j other. passed_over j k (same_name j k) p (g.process j) other;
-        left_is = refl;
-        told_is = refl;
-      })
+      let p : Process actors = record { store = store; life = life } in (
+        record { process = λ j. choose j k (same_name j k) p (g.process j); left = left; told = told },
+        record {
+          here = chosen k k (same_name k k) p (g.process k) refl;
+          others = λ j other. passed_over j k (same_name j k) p (g.process j) other;
+          left_is = refl;
+          told_is = refl;
+        },
+      )
 
   module _ (k : K) where
     -- the items, one by one

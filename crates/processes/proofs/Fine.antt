@@ -53,7 +53,7 @@ module _ (n i : ℕ) (s : Server) where
   IsLive inputs.Restart = ⊥
   IsLive _ = ⊤
 
-  wakes_none : (input : inputs.Input) (act : inputs.Act) → IsLive input → servers.restarts s input ≡ Ok act → ⊥
+  wakes_none : (input : inputs.Input) (act : inputs.Act) → IsLive input → servers.wakes s input ≡ Ok act → ⊥
   wakes_none (inputs.Arrives message) act live h = cc
   wakes_none inputs.Timeout act live h = cc
   wakes_none inputs.Beat act live h = cc

@@ -125,8 +125,8 @@ module _ {K A P I M E W : Type 0} (actors : Actors K A P I M) (above : Abstracti
             subst (Tellings (b.worlds ++ b.world ∷ []) o.next)
             (append_assoc ts (map (told_by actors k) unsaved) (told_by actors k c ∷ []) ∙ ap (λ l. ts ++ l) (sym (map-append (told_by actors k) unsaved (c ∷ []))))
             (tells_now (b.worlds ++ b.world ∷ []) o.next (ts ++ map (told_by actors k) unsaved) k c
-                (tellings_kept b.worlds b.world (b.worlds ++ b.world ∷ []) o.next on (omega (arith, push_length b.worlds b.world)) (ts ++ map (told_by actors k) unsaved) (b.told ts t))
-                o.here);
+            (tellings_kept b.worlds b.world (b.worlds ++ b.world ∷ []) o.next on (omega (arith, push_length b.worlds b.world)) (ts ++ map (told_by actors k) unsaved) (b.told ts t))
+            o.here);
       }
 
   taken_more : (k : K) (left sent : List M) → ((x : M) → IsAmong left x → IsAmong sent x) → (base a : A) (unsaved : List A) (out : List M) → Taken actors k left base a unsaved out → Taken actors k sent base a unsaved out
@@ -147,7 +147,7 @@ module _ {K A P I M E W : Type 0} (actors : Actors K A P I M) (above : Abstracti
     taken_beyond base a unsaved out here (one_more {a = old} {unsaved = before} {out = sent_before} input b others t h) =
         let c = taken_beyond base old before sent_before here t in
         goes_on k past w old before sent_before c b others (law.does c.events c.worlds c.world k old b input others c.reach c.here
-            (law.grows (above.sent w) (above.sent c.world) k old b input others (λ x a. among_more (above.sent w) (above.sent c.world) sent_before c.sent x a) h))
+        (law.grows (above.sent w) (above.sent c.world) k old b input others (λ x a. among_more (above.sent w) (above.sent c.world) sent_before c.sent x a) h))
 
   -- ---- the processes
 
@@ -236,12 +236,12 @@ module _ {K A P I M E W : Type 0} (actors : Actors K A P I M) (above : Abstracti
     starting store NotStarted is idle a c =
         let b = stays k H.events H.past H.world (actors.restarted store) H.reach (subst (λ s. above.actor H.world k ≡ Some (actors.restarted s)) (sym a.0) (a.1 is)) in
         joined store (Running (actors.restarted store) [] [] []) g.left (g.told ++ told_by actors k (actors.restarted store) ∷ []) c b (begun_agrees b.world store b.here) (inr (law.fine_begin store)) (left_on b)
-            (tells_now b.worlds b.world g.told k (actors.restarted store) (told_on b) b.here)
+        (tells_now b.worlds b.world g.told k (actors.restarted store) (told_on b) b.here)
     starting store Killed is idle a c =
         let s = stays k H.events H.past H.world (stop store) H.reach a in
         let b = goes_on k H.past H.world (stop store) [] [] s (actors.restarted store) [] (law.restarts s.events s.worlds s.world k store s.reach s.here) in
         joined store (Running (actors.restarted store) [] [] []) g.left (g.told ++ told_by actors k (actors.restarted store) ∷ []) c b (begun_agrees b.world store b.here) (inr (law.fine_begin store)) (left_on b)
-            (b.told g.told H.told)
+        (b.told g.told H.told)
     starting store (Running actor unsaved held ready) is idle a c = absurd idle
 
     module _ (store : P) (a : A) (unsaved : List A) (held ready : List M) (is : g.process k ≡ record { store = store; life = Running a unsaved held ready }) where
@@ -259,14 +259,14 @@ module _ {K A P I M E W : Type 0} (actors : Actors K A P I M) (above : Abstracti
           let y = stays k H.events H.past H.world x.base H.reach x.here in
           let on : (z : M) → IsAmong (above.sent H.world) z → IsAmong (above.sent y.world) z = λ z q. among_more (above.sent H.world) (above.sent y.world) [] y.sent z q in
           joined store (Running b (unsaved ++ b ∷ []) (held ++ out) ready) g.left g.told c y
-              (record {
-                base = x.base;
-                here = y.here;
-                stored = x.stored;
-                taken = one_more input b out (taken_more k (above.sent H.world) (above.sent y.world) on x.base a unsaved held x.taken) (law.grows g.left (above.sent y.world) k a b input out (λ z q. left_on y z q) h);
-                sends = λ z q. on z (x.sends z q);
-              })
-              (inr (base_fine x.base x.here)) (left_on y) (told_on y)
+          (record {
+            base = x.base;
+            here = y.here;
+            stored = x.stored;
+            taken = one_more input b out (taken_more k (above.sent H.world) (above.sent y.world) on x.base a unsaved held x.taken) (law.grows g.left (above.sent y.world) k a b input out (λ z q. left_on y z q) h);
+            sends = λ z q. on z (x.sends z q);
+          })
+          (inr (base_fine x.base x.here)) (left_on y) (told_on y)
 
       -- It stores: now all that it took happens in the world.
       saving : Becomes actors g k (actors.stored a) (Running a [] [] (ready ++ held)) g.left (g.told ++ map (told_by actors k) unsaved) next → Next H.past H.world next
@@ -274,17 +274,17 @@ module _ {K A P I M E W : Type 0} (actors : Actors K A P I M) (above : Abstracti
           let x = ahead in
           let b = taken_beyond k H.events H.past H.world H.reach x.base a unsaved held x.here x.taken in
           joined (actors.stored a) (Running a [] [] (ready ++ held)) g.left (g.told ++ map (told_by actors k) unsaved) c b
-              (record {
-                base = a;
-                here = b.here;
-                stored = refl;
-                taken = none;
-                sends = λ z h. elim (get-split ready held h.0 z h.1) [
-                  | inl e ↦ among_more (above.sent H.world) (above.sent b.world) held b.sent z (x.sends z (h.0, e))
-                  | inr e ↦ let q = get-later (above.sent H.world) held e.0 z e.1 in (q.0, ap (λ l. slice_get l q.0) b.sent ∙ q.1)
-                ];
-              })
-              (inr (taken_fine k (above.sent H.world) x.base a unsaved held (base_fine x.base x.here) x.taken)) (left_on b) (b.told g.told H.told)
+          (record {
+            base = a;
+            here = b.here;
+            stored = refl;
+            taken = none;
+            sends = λ z h. elim (get-split ready held h.0 z h.1) [
+              | inl e ↦ among_more (above.sent H.world) (above.sent b.world) held b.sent z (x.sends z (h.0, e))
+              | inr e ↦ let q = get-later (above.sent H.world) held e.0 z e.1 in (q.0, ap (λ l. slice_get l q.0) b.sent ∙ q.1)
+            ];
+          })
+          (inr (taken_fine k (above.sent H.world) x.base a unsaved held (base_fine x.base x.here) x.taken)) (left_on b) (b.told g.told H.told)
 
       -- A message leaves: it was sent when it was stored.
       sending : (message : M) (others : List M) → ready ≡ message ∷ others → Becomes actors g k store (Running a unsaved held others) (g.left ++ message ∷ []) g.told next → Next H.past H.world next
@@ -294,19 +294,19 @@ module _ {K A P I M E W : Type 0} (actors : Actors K A P I M) (above : Abstracti
           let on : (z : M) → IsAmong (above.sent H.world) z → IsAmong (above.sent y.world) z = λ z q. among_more (above.sent H.world) (above.sent y.world) [] y.sent z q in
           let sent : (z : M) → IsAmong (message ∷ others) z → IsAmong (above.sent y.world) z = λ z q. on z (x.sends z (subst (λ l. IsAmong l z) (sym same) q)) in
           joined store (Running a unsaved held others) (g.left ++ message ∷ []) g.told c y
-              (record {
-                base = x.base;
-                here = y.here;
-                stored = x.stored;
-                taken = taken_more k (above.sent H.world) (above.sent y.world) on x.base a unsaved held x.taken;
-                sends = λ z q. sent z (suc q.0, q.1);
-              })
-              (inr (base_fine x.base x.here))
-              (λ z q. elim (get-split g.left (message ∷ []) q.0 z q.1) [
-                | inl e ↦ left_on y z (q.0, e)
-                | inr e ↦ sent z (0, ap Some (get-one message e.0 z e.1))
-              ])
-              (told_on y)
+          (record {
+            base = x.base;
+            here = y.here;
+            stored = x.stored;
+            taken = taken_more k (above.sent H.world) (above.sent y.world) on x.base a unsaved held x.taken;
+            sends = λ z q. sent z (suc q.0, q.1);
+          })
+          (inr (base_fine x.base x.here))
+          (λ z q. elim (get-split g.left (message ∷ []) q.0 z q.1) [
+            | inl e ↦ left_on y z (q.0, e)
+            | inr e ↦ sent z (0, ap Some (get-one message e.0 z e.1))
+          ])
+          (told_on y)
 
       -- It dies: what it took is lost, and the actor that it was crashes.
       dying : Becomes actors g k store Killed g.left g.told next → Next H.past H.world next

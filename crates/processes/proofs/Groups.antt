@@ -8,7 +8,6 @@ use Rattle.raft_model.specs.Messages.{Message}
 use Rattle.raft_model.specs.Rafts.{is_up, silent, crashed}
 use Rattle.raft_model.specs.Steps as raft_steps
 use Rattle.cluster_model.specs.ClusterMachine.{cluster_meaning}
-use Rattle.raft_model.specs.Worlds as raft_worlds
 use Rattle.raft_safety.proofs.Places.{get_set-same, get-within, set-length}
 use Rattle.group_model.specs.Messages.{GroupMessage, OfLog, Service, ServiceMessage, BetweenServers, ToServer, ToClient}
 use Rattle.group_model.specs.Inputs as inputs
@@ -145,8 +144,8 @@ module _ (n : ℕ) (nodes : List NodeSpec) where
     service_does i s message turn here among is fits h =
         let q = service_is i message is in
         server_more i s turn.server turn.sent (Deliver among.0) here
-            (subst (λ x. LogEventFits (raft_delivery w among.0 x)) (sym among.1) (subst (λ x. LogEventFits x) (sym q.0) (fits_is i s (inputs.Arrives message) here fits)))
-            (ap (delivers w) among.1 ∙ (q.1 ∙ takes_is i s (inputs.Arrives message) turn here h))
+        (subst (λ x. LogEventFits (raft_delivery w among.0 x)) (sym among.1) (subst (λ x. LogEventFits x) (sym q.0) (fits_is i s (inputs.Arrives message) here fits)))
+        (ap (delivers w) among.1 ∙ (q.1 ∙ takes_is i s (inputs.Arrives message) turn here h))
 
     -- who takes an item makes an event
     does : (k : groups.Who) (a b : groups.Actor) (input : groups.Item) (out : List GroupMessage) → groups.actor_of w k ≡ Some a → groups.Takes n w.sent k a input b out → One events past w k b out
@@ -154,8 +153,8 @@ module _ (n : ℕ) (nodes : List NodeSpec) where
     does k a b item out here (groups.server_comes i s message turn among is fits h) = service_does i s message turn (server_is _ s here) among is fits h
     does k a b item out here (groups.client_comes c x server response turn among h) =
         client_more c x turn.client (map Service turn.sent) (Deliver among.0) (client_is _ x here)
-            (subst (λ x. LogEventFits (raft_delivery w among.0 x)) (sym among.1) tt)
-            (ap (delivers w) among.1 ∙ client_takes_is c x (agents.Arrives server response) turn (client_is _ x here) h)
+        (subst (λ x. LogEventFits (raft_delivery w among.0 x)) (sym among.1) tt)
+        (ap (delivers w) among.1 ∙ client_takes_is c x (agents.Arrives server response) turn (client_is _ x here) h)
     does k a b item out here (groups.server_own i s input turn own fits h) =
         server_more i s turn.server turn.sent (AtServer i input) (server_is _ s here) (fits_is i s input (server_is _ s here) fits) (own_is i input own ∙ takes_is i s input turn (server_is _ s here) h)
     does k a b item out here (groups.client_own c x input turn own h) =

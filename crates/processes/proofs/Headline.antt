@@ -6,7 +6,7 @@ use Rattle.raft_model.specs.Worlds as raft_worlds
 use Rattle.raft_model.specs.Chains.{At}
 use Rattle.group_model.specs.Servers.{Server}
 use Rattle.group_model.specs.Agents.{Agent}
-use Rattle.group_model.specs.Worlds.{World, raft_of}
+use Rattle.group_model.specs.Worlds.{raft_of}
 use Rattle.group_safety.specs.Claims.{ServerAt, AgentAt, logs}
 use Rattle.group_safety.proofs.Chained as chained
 use Rattle.group_safety.proofs.Placings.{placed}
@@ -57,8 +57,8 @@ module _ (n : ℕ) (nodes : List NodeSpec) (before : List (System (group_actors 
             let a_log = server_log W.past W.world a.0 i s a.1 in
             let b_log = server_log W.past W.world b.0 j t b.1 in
             one.1.one_leader a.0 b.0 a_log.world b_log.world i j t.raft.term a_log.world_is b_log.world_is
-                (leads (logs W.past) (raft_of W.world) a.0 i s.raft a_log t.raft.term term s.raft.mode refl s_leads)
-                (leads (logs W.past) (raft_of W.world) b.0 j t.raft b_log t.raft.term refl t.raft.mode refl t_leads);
+            (leads (logs W.past) (raft_of W.world) a.0 i s.raft a_log t.raft.term term s.raft.mode refl s_leads)
+            (leads (logs W.past) (raft_of W.world) b.0 j t.raft b_log t.raft.term refl t.raft.mode refl t_leads);
         placed = λ k i j x id h there.
             let a = client_told_at k i x h in
             let p = placed n nodes W.events W.past W.world W.reach.0 one.0 one.1 a.0 i x j id a.1 there in

@@ -149,15 +149,15 @@ module _ {S C : Type 0} (m : Meaning S C) (n : ℕ) (before : List (System (log_
             subst (λ (z : Raft C). Agree t.actor.commit s.list z.log)
             (leads_server W.past W.world a.second u.who u.actor y u.actor.mode refl u_leads)
             (ch.complete a.first a.second t.who u.who u.actor.term t.actor y.world a.order x term y.world_is
-                (leads W.past W.world a.second u.who u.actor y u.actor.term refl u.actor.mode refl u_leads));
+            (leads W.past W.world a.second u.who u.actor y u.actor.term refl u.actor.mode refl u_leads));
         leaders = λ k l t u at_k at_l t_leads u_leads term.
             let a = W.told k k t t (omega arith) at_k at_k in
             let b = W.told l l u u (omega arith) at_l at_l in
             let x = at_of W.past W.world a.first t.who t.actor a.first_at in
             let y = at_of W.past W.world b.first u.who u.actor b.first_at in
             one_leader m n W.events W.past W.world W.reach a.first b.first x.world y.world t.who u.who u.actor.term x.world_is y.world_is
-                (leads W.past W.world a.first t.who t.actor x u.actor.term term t.actor.mode refl t_leads)
-                (leads W.past W.world b.first u.who u.actor y u.actor.term refl u.actor.mode refl u_leads);
+            (leads W.past W.world a.first t.who t.actor x u.actor.term term t.actor.mode refl t_leads)
+            (leads W.past W.world b.first u.who u.actor y u.actor.term refl u.actor.mode refl u_leads);
         settled = λ k l index t u command at_k at_l one within has.
             let a = W.told k k t t (omega arith) at_k at_k in
             let b = W.told l l u u (omega arith) at_l at_l in

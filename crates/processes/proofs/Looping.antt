@@ -1,8 +1,8 @@
 -- Processes of which each does what it may by itself are a run of processes.
-use Rattle.std.proofs.Common.{◌≡◌, ◌≢◌, ◌⊎◌, inl, inr, List, [], ◌∷◌, ◌++◌, map, refl, sym, ap, ◌∙◌, subst}
+use Rattle.std.proofs.Common.{◌≡◌, ◌≢◌, inl, inr, List, [], ◌∷◌, ◌++◌, map, refl, sym, ap, ◌∙◌, subst}
 use Rattle.processes.specs.Processes as processes
 use Rattle.processes.specs.Processes.{Actors, Life, NotStarted, Running, Killed, Process, Told, told_by, System, Becomes, Steps, Execution, begun, gone}
-use Rattle.processes.specs.Loops.{Act, Starts, Reads, Saves, Sends, Ends, left_after, Does, starts, reads, saves, sends, ends, Alone, Each, ExecutionTo}
+use Rattle.processes.specs.Loops.{Act, left_after, Does, starts, reads, saves, sends, ends, Each, ExecutionTo}
 
 module _ {K A P I M : Type 0} (actors : Actors K A P I M) where
   -- an act of one is a step of all

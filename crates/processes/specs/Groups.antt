@@ -87,29 +87,29 @@ pub data Takes (n : ℕ) (left : List GroupMessage) :
       IsAmong left (OfLog message) → message.to ≡ i →
       servers.takes_log_message n i s message ≡ Ok turn →
       Takes n left (ServerOf i) (IsServer s) (Comes (OfLog message))
-          (IsServer turn.server) turn.sent
+      (IsServer turn.server) turn.sent
   server_comes : (i : ℕ) (s : Server) (message : ServiceMessage) (turn : servers.ServerTurn) →
       IsAmong left (Service message) → IsFor i message →
       Fits n i s (inputs.Arrives message) →
       servers.step n i s (inputs.Arrives message) ≡ Ok turn →
       Takes n left (ServerOf i) (IsServer s) (Comes (Service message))
-          (IsServer turn.server) turn.sent
+      (IsServer turn.server) turn.sent
   client_comes : (c : ℕ) (x : Agent) (server : ℕ) (response : ClientResponse)
       (turn : agents.AgentTurn) →
       IsAmong left (Service (ToClient server c response)) →
       agents.step n x (agents.Arrives server response) ≡ Ok turn →
       Takes n left (ClientOf c) (IsClient x) (Comes (Service (ToClient server c response)))
-          (IsClient turn.client) (map Service turn.sent)
+      (IsClient turn.client) (map Service turn.sent)
   server_own : (i : ℕ) (s : Server) (input : inputs.Input) (turn : servers.ServerTurn) →
       IsOwn input → Fits n i s input →
       servers.step n i s input ≡ Ok turn →
       Takes n left (ServerOf i) (IsServer s) (ServerInput input)
-          (IsServer turn.server) turn.sent
+      (IsServer turn.server) turn.sent
   client_own : (c : ℕ) (x : Agent) (input : agents.Input) (turn : agents.AgentTurn) →
       IsOwnOfClient input →
       agents.step n x input ≡ Ok turn →
       Takes n left (ClientOf c) (IsClient x) (ClientInput input)
-          (IsClient turn.client) (map Service turn.sent)
+      (IsClient turn.client) (map Service turn.sent)
 
 -- n servers and these nodes' clients
 abbrev pub stored_first : List NodeSpec → Who → Stored

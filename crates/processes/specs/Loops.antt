@@ -1,6 +1,6 @@
 -- What each process does alone, in the order in which all of it happens.
 use Rattle.std.specs.Prelude.{◌≡◌, ◌≢◌, ◌⊎◌, List, [], ◌∷◌, ◌++◌}
-use Rattle.processes.specs.Processes.{Actors, Life, NotStarted, Killed, Running, running}
+use Rattle.processes.specs.Processes.{Actors, Life, NotStarted, Killed, running}
 use Rattle.processes.specs.Processes.{IsIdle, Process, System, Execution}
 
 -- It starts; it reads an item and takes it; what it took is in its store; it sends a message; it
@@ -31,21 +31,21 @@ module _ {K A P I M : Type 0} (actors : Actors K A P I M) where
       Process actors → Act A I M → Process actors → Type 0 where
     starts : (store : P) (life : Life actors) → actors.IsOne k → IsIdle actors life →
         Does k left (record { store = store; life = life })
-            Starts (At store (actors.restarted store) [] [] [])
+        Starts (At store (actors.restarted store) [] [] [])
     reads : (store : P) (a b : A) (unsaved : List A) (held ready : List M)
         (input : I) (out : List M) →
         actors.Takes left k a input b out →
         Does k left (At store a unsaved held ready)
-            (Reads input b out) (At store b (unsaved ++ b ∷ []) (held ++ out) ready)
+        (Reads input b out) (At store b (unsaved ++ b ∷ []) (held ++ out) ready)
     saves : (store : P) (a : A) (unsaved : List A) (held ready : List M) →
         Does k left (At store a unsaved held ready)
-            Saves (At (actors.stored a) a [] [] (ready ++ held))
+        Saves (At (actors.stored a) a [] [] (ready ++ held))
     sends : (store : P) (a : A) (unsaved : List A) (held ready : List M) (message : M) →
         Does k left (At store a unsaved held (message ∷ ready))
-            (Sends message) (At store a unsaved held ready)
+        (Sends message) (At store a unsaved held ready)
     ends : (store : P) (a : A) (unsaved : List A) (held ready : List M) →
         Does k left (At store a unsaved held ready)
-            Ends (record { store = store; life = Killed })
+        Ends (record { store = store; life = Killed })
 
   -- one process through all acts, the last of which stands first: it came to this by its own
   abbrev pub Alone : K → List (K × Act A I M) → Process actors → Type 0

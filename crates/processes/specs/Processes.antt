@@ -76,7 +76,7 @@ module _ {K A P I M : Type 0} (actors : Actors K A P I M) where
         actors.IsOne k →
         g.process k ≡ record { store = store; life = life } → IsIdle life →
         Becomes g k store (Running (actors.restarted store) [] [] [])
-            g.left (g.told ++ told_by k (actors.restarted store) ∷ []) next →
+        g.left (g.told ++ told_by k (actors.restarted store) ∷ []) next →
         Steps g next
     -- it takes an item, and nothing of it is stored yet
     takes : (k : K) (store : P) (a b : A) (unsaved : List A) (held ready : List M)
@@ -84,21 +84,21 @@ module _ {K A P I M : Type 0} (actors : Actors K A P I M) where
         g.process k ≡ running store a unsaved held ready →
         actors.Takes g.left k a input b out →
         Becomes g k store (Running b (unsaved ++ b ∷ []) (held ++ out) ready)
-            g.left g.told next →
+        g.left g.told next →
         Steps g next
     -- what it took is stored, whatever else happened since it was taken
     saves : (k : K) (store : P) (a : A) (unsaved : List A) (held ready : List M)
         (next : System) →
         g.process k ≡ running store a unsaved held ready →
         Becomes g k (actors.stored a) (Running a [] [] (ready ++ held))
-            g.left (g.told ++ map (told_by k) unsaved) next →
+        g.left (g.told ++ map (told_by k) unsaved) next →
         Steps g next
     -- the first message that may leave it leaves
     sends : (k : K) (store : P) (a : A) (unsaved : List A) (held ready : List M)
         (message : M) (next : System) →
         g.process k ≡ running store a unsaved held (message ∷ ready) →
         Becomes g k store (Running a unsaved held ready)
-            (g.left ++ message ∷ []) g.told next →
+        (g.left ++ message ∷ []) g.told next →
         Steps g next
     -- It ends, or is killed: what it took and did not store is lost, and what had not left never
     -- leaves.
