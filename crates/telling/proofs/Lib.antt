@@ -1,2 +1,3 @@
+pub mod Olds
 pub mod Runs
 pub mod Rows

@@ -8,4 +8,4 @@ pub loop-row-preserved : goal.loop-row-preserved
 loop-row-preserved c = λ after told.
     c.loop-row.invariant after
     (subst (λ (rows : List Allocation). TellsNew (IsOldAlloc c.args.old.now) alloc_words rows (string_bytes c.loop-row.words) after)
-    (sym c.in-Some.ensures.steps) (string_bytes c.push_new_alloc.new.words, (c.in_ok-push_new_alloc.ensures, told)))
+    (sym c.in-Some.ensures.steps) (string_bytes c.push_new_alloc.new.words, c.in_ok-push_new_alloc.ensures, told))

@@ -8,4 +8,4 @@ pub loop-row-preserved : goal.loop-row-preserved
 loop-row-preserved c = λ after told.
     c.loop-row.invariant after
     (subst (λ (rows : List Evaluation). TellsNew (IsOldEval c.args.old.now) eval_words rows (string_bytes c.loop-row.words) after)
-    (sym c.in-Some.ensures.steps) (string_bytes c.push_new_eval.new.words, (c.in_ok-push_new_eval.ensures, told)))
+    (sym c.in-Some.ensures.steps) (string_bytes c.push_new_eval.new.words, c.in_ok-push_new_eval.ensures, told))
