@@ -20,7 +20,7 @@ leads_on first events done now mark i on event left next later row told rest mor
     subst (TellsRun first first_mark 0 events) (sym (append_assoc done (row ∷ []) rest))
     (on (row ∷ rest)
     (subst (λ (es : List Event). TellsRun now mark i es (row ∷ rest)) (sym left)
-    (next, (later, (row, (rest, (told, (refl, more))))))))
+    (next, later, row, rest, told, refl, more)))
 
 -- behind some rows stand those of the first so many events
 pub record ToldSoFar (first : GroupView) (events : List Event) (front rows : List (List (List ℕ))) (now : GroupView) (mark : Mark) (i : ℕ) : Type 0 where
@@ -53,9 +53,7 @@ pub all_told : (first : GroupView) (events : List Event) (front rows : List (Lis
     → (done : List (List (List ℕ))) × TellsRun first first_mark 0 events done × (rows ≡ front ++ done)
 all_told first events front rows now mark i so past = (
   so.done,
-  (
-    subst (TellsRun first first_mark 0 events) (append-nil so.done)
-        (so.on [] (subst (λ (es : List Event). TellsRun now mark i es []) (sym (drop_all i events past)) refl)),
-    so.are,
-  ),
+  subst (TellsRun first first_mark 0 events) (append-nil so.done)
+      (so.on [] (subst (λ (es : List Event). TellsRun now mark i es []) (sym (drop_all i events past)) refl)),
+  so.are,
 )
