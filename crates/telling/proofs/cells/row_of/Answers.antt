@@ -14,6 +14,6 @@ returns c =
       answer = c.in_ok-answer.answer;
       took = rw c.in_ok-try_clone.ensures.same at c.in_ok-answer.ensures;
       changed = string_bytes change.0;
-      change = search (rules, change.1.0);
+      change = search (rules, change.1);
       cells = search (rules, number.1, who.1, answered.1, change.1, sent.1);
     }

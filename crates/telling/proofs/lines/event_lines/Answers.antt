@@ -8,8 +8,6 @@ returns-clause-lines c =
     let rows = c.in_ok-told.ensures.rows in
     let none = ap (λ (before : List (Vec (String Global) Global)). map cells_of before ++ rows.0) c.new.ensures in (
       rows.0,
-      (
-        (c.in_ok-world.world, (c.in_ok-world.ensures.new, rows.1.0)),
-        c.in_ok-lines.ensures.lines ∙ ap (map loose_line) (rows.1.1 ∙ none),
-      ),
+      (c.in_ok-world.world, c.in_ok-world.ensures.new, rows.1),
+      c.in_ok-lines.ensures.lines ∙ ap (map loose_line) (rows.2 ∙ none),
     )

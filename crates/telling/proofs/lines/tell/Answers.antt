@@ -9,12 +9,8 @@ returns-clause-lines g c =
     on_ok c.print_lines.result
     (λ printed. (
       told.0,
-      (
-        (c.in_ok-world.world, (c.in_ok-world.ensures.new, told.1.1.0)),
-        (
-          told.1.0,
-          rw (ap (map string_bytes) c.deref.ensures.value ∙ told.1.1.1) at printed,
-        ),
-      ),
+      (c.in_ok-world.world, c.in_ok-world.ensures.new, told.2),
+      told.1,
+      rw (ap (map string_bytes) c.deref.ensures.value ∙ told.3) at printed,
     ))
     c.print_lines.ensures.lines

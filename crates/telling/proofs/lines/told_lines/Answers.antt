@@ -14,12 +14,8 @@ returns c =
     ∙ ap (λ (before : List (Vec (String Global) Global)). before ++ first ∷ []) c.new-grid.ensures in
     let front = ap (map cells_of) alone ∙ ap (λ (row : List (List ℕ)). row ∷ []) c.in_ok-first.ensures in (
       rows.0,
-      (
-        lines.0,
-        (
-          rows.1.0,
-          lines.1
-              ∙ ap (map (aligned_line lines.0)) (rows.1.1 ∙ ap (λ (all : List (List (List ℕ))). all ++ rows.0) front),
-        ),
-      ),
+      lines.0,
+      rows.1,
+      lines.1
+          ∙ ap (map (aligned_line lines.0)) (rows.2 ∙ ap (λ (all : List (List (List ℕ))). all ++ rows.0) front),
     )
