@@ -1,1 +1,2 @@
+pub mod Grids
 pub mod Inner
