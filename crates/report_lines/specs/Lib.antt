@@ -1,3 +1,4 @@
 pub mod Changes
+pub mod Grids
 pub mod Heads
 pub mod Inner

@@ -1,2 +1,3 @@
 -- Words of private contracts.
-pub mod Frames
+pub mod Cells
+pub mod Newest

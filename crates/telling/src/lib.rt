@@ -7,5 +7,6 @@ mod lines;
 mod newest;
 mod sent;
 mod standing;
+mod words;
 
 pub use lines::{event_lines, tell};

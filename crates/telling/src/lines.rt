@@ -1,10 +1,13 @@
 //! What each event of a run did, a line an event.
-ghost use Rattle.std.specs.Prelude.{◌≡◌, ◌≢◌, ◌+◌, length, IfErr, IfOk, OnOk};
+ghost use Rattle.std.specs.Prelude.{◌≡◌, ◌≢◌, ◌+◌, ◌++◌, ◌∷◌, List, ℕ, length, map, string_bytes, IfErr, IfOk, OnOk};
 ghost use Rattle.labels.specs.Groups.{MayBe, MayNotBe};
-ghost use Rattle.telling.specs.Told.{GrowsByEventLines};
+ghost use Rattle.report_lines.specs.Grids.{aligned_line, cells_of};
+ghost use Rattle.telling.specs.Told.{AreEventLines, GrowsByEventLines, heads};
+ghost use Rattle.telling.specs.Events.{TellsRun};
+ghost use Rattle.telling.specs.Marks.{first_mark};
 ghost use Rattle.playback.specs.declared.fault.PlaybackError.TheVariants as errors;
 
-use crate::cells::row_of;
+use crate::cells::{push_cell, row_of};
 use crate::newest::Newest;
 use group_inputs::Event;
 use playback::{PlaybackError, begin, print_lines};
@@ -50,7 +53,9 @@ pub fn event_lines(
     nodes: &[NodeSpec],
     events: &[Event],
 ) -> Result<Vec<String>, PlaybackError>
-    ensures lines { IfOk result (λ lines. length lines.items ≡ length events.now) }
+    ensures count { IfOk result (λ lines. length lines.items ≡ length events.now) }
+    ensures lines { IfOk result (λ lines.
+        AreEventLines servers nodes.now events.now (map string_bytes lines.items)) }
     ensures group { OnOk result (MayBe servers nodes.now) }
     ensures fault { IfErr result (λ error. error ≢ errors.Group → MayBe servers nodes.now) }
     ensures no_group { IfErr result (λ error. error ≡ errors.Group → MayNotBe servers nodes.now) }
@@ -64,33 +69,45 @@ pub fn event_lines(
 
 // The line of heads, and the lines of a group that takes these events.
 fn told_lines(alloc: Global, world: World, events: &[Event]) -> Result<Vec<String>, NoMemory>
-    ensures { IfOk result (λ lines. length lines.items ≡ length events.now + 1) }
+    ensures { IfOk result (λ lines. (rows : List (List (List ℕ))) × (widths : List ℕ)
+        × TellsRun world first_mark 0 events.now rows
+        × (map string_bytes lines.items ≡ map (aligned_line widths) (heads ∷ rows))) }
 {
     let mut grid = Grid::new(alloc);
-    grid.rows.push(heads(alloc)?)?;
-    told_behind(alloc, world, events, grid)?.lines(alloc)
+    let first = heads(alloc)?;
+    grid.rows.push(first)?;
+    let told = told_behind(alloc, world, events, grid)?;
+    let lines = told.lines(alloc)?;
+    Ok(lines)
 }
 
 // Behind these rows a row for each event, which a group takes.
 fn told_behind(alloc: Global, world: World, events: &[Event], grid: Grid) -> Result<Grid, NoMemory>
-    ensures { IfOk result (λ told.
+    ensures count { IfOk result (λ told.
         length told.rows.items ≡ length grid.rows.items + length events.now) }
+    ensures rows { IfOk result (λ told. (rows : List (List (List ℕ)))
+        × TellsRun world first_mark 0 events.now rows
+        × (map cells_of told.rows.items ≡ map cells_of grid.rows.items ++ rows)) }
 {
     let (mut world, mut grid) = (world, grid);
     let mut newest = Newest::new(alloc)?;
     let mut number = 0usize;
     for event in events {
-        number = number.saturating_add(1);
+        number += 1;
         let row = row_of(alloc, &mut world, &mut newest, number, event)?;
         grid.rows.push(row)?;
     }
     Ok(grid)
 }
 
-fn heads(alloc: Global) -> Result<Vec<String>, NoMemory> {
+fn heads(alloc: Global) -> Result<Vec<String>, NoMemory>
+    ensures { IfOk result (λ row. map string_bytes row.items ≡ heads) }
+{
     let mut row = Vec::new(alloc);
-    for head in ["event", "who", "took", "changed", "sent"] {
-        row.push(owned(alloc, head)?)?;
-    }
+    push_cell(&mut row, owned(alloc, "event"))?;
+    push_cell(&mut row, owned(alloc, "who"))?;
+    push_cell(&mut row, owned(alloc, "took"))?;
+    push_cell(&mut row, owned(alloc, "changed"))?;
+    push_cell(&mut row, owned(alloc, "sent"))?;
     Ok(row)
 }

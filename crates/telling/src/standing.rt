@@ -1,152 +1,267 @@
 //! How an actor stands, and what an event changed of that.
+ghost use Rattle.std.specs.Prelude.{◌≡◌, IfOk, OnOk, string_bytes};
+ghost use Rattle.telling.specs.Words.{with_word};
+ghost use Rattle.telling.specs.Standings.{standing_in, server_standing, client_standing, leads, same_role};
+ghost use Rattle.telling.specs.StandingWords.{change_words, with_server, with_role, with_doing, with_term, with_log, with_commit, with_client, with_up, with_seen};
+ghost use Rattle.telling.specs.declared.standing.Standing.TheVariants as standings;
+
+use crate::words::part;
 use client_agent::Agent;
 use labels::role_word;
 use raft_core::Role;
-use rows::{Actor, Index, NoMemory};
+use rows::{Actor, NoMemory};
 use server::Server;
 use std::alloc::Global;
 use world::World;
 
+/// How a server stands.
+#[derive(Clone, Copy)]
+pub(crate) struct ServerStanding {
+    /// What it is doing.
+    pub role: Option<Role>,
+    /// Its term.
+    pub term: u64,
+    /// How many entries it has applied, and none while it is down.
+    pub applied: u64,
+    /// How many its log has.
+    pub last: u64,
+}
+
+/// How a client stands.
+#[derive(Clone, Copy)]
+pub(crate) struct ClientStanding {
+    /// Whether it is up.
+    pub up: bool,
+    /// The index of the list that it took last.
+    pub seen: u64,
+}
+
 /// How an actor stands.
-#[derive(Clone, Copy, PartialEq, Eq)]
+#[derive(Clone, Copy)]
 pub(crate) enum Standing {
     /// There is no such actor.
     None,
-    /// A server: what it is doing, its term, how many entries it has applied and how many its log
-    /// has.
-    Server(Option<Role>, u64, u64, u64),
-    /// A client: whether it is up, and the index of the list that it took last.
-    Client(bool, u64),
+    /// A server.
+    Server(ServerStanding),
+    /// A client.
+    Client(ClientStanding),
 }
 
 impl Standing {
     /// How an actor of a group stands.
-    pub(crate) fn of(world: &World, actor: Option<Actor>) -> Standing {
+    pub(crate) fn of(world: &World, actor: Option<Actor>) -> Standing
+        ensures { result ≡ standing_in world.now actor }
+    {
         match actor {
-            Some(actor) => Standing::of_actor(world, actor),
+            Some(Actor::Server(id)) => match world.server(id) {
+                Some(server) => Standing::of_server(server),
+                None => Standing::None,
+            },
+            Some(Actor::Client(id)) => match world.client(id) {
+                Some(client) => Standing::of_client(client),
+                None => Standing::None,
+            },
             None => Standing::None,
         }
     }
 
-    fn of_actor(world: &World, actor: Actor) -> Standing {
-        match actor {
-            Actor::Server(id) => match world.server(id) {
-                Some(server) => Standing::of_server(server),
-                None => Standing::None,
-            },
-            Actor::Client(id) => match world.client(id) {
-                Some(client) => Standing::of_client(client),
-                None => Standing::None,
-            },
-        }
+    fn of_server(server: &Server) -> Standing
+        ensures { result ≡ standings.Server (server_standing server.now) }
+    {
+        Standing::Server(ServerStanding {
+            role: server.role(),
+            term: server.term().get(),
+            applied: applied_of(server),
+            last: server.last().get(),
+        })
     }
 
-    fn of_client(client: &Agent) -> Standing {
-        Standing::Client(client.is_up(), number_of(client.seen()))
-    }
-
-    fn of_server(server: &Server) -> Standing {
-        let (role, term) = (server.role(), server.term().get());
-        Standing::Server(role, term, number_of(server.applied()), server.last().get())
+    fn of_client(client: &Agent) -> Standing
+        ensures { result ≡ standings.Client (client_standing client.now) }
+    {
+        Standing::Client(ClientStanding {
+            up: client.is_up(),
+            seen: seen_of(client),
+        })
     }
 }
 
-fn number_of(index: Option<Index>) -> u64 {
-    match index {
-        Some(index) => index.get(),
+fn applied_of(server: &Server) -> u64
+    ensures { result ≡ (server_standing server.now).applied }
+{
+    match server.applied() {
+        Some(applied) => applied.get(),
+        None => 0,
+    }
+}
+
+fn seen_of(client: &Agent) -> u64
+    ensures { result ≡ (client_standing client.now).seen }
+{
+    match client.seen() {
+        Some(seen) => seen.get(),
         None => 0,
     }
 }
 
 /// What an event changed of its actor, in the words of pictures.
-pub(crate) fn changed(
-    alloc: Global,
-    before: Standing,
-    after: Standing,
-) -> Result<String, NoMemory> {
+pub(crate) fn changed(alloc: Global, before: Standing, after: Standing) -> Result<String, NoMemory>
+    ensures { IfOk result (λ words. string_bytes words ≡ change_words before after) }
+{
     let mut words = String::new(alloc);
-    match after {
-        Standing::Server(role, term, applied, last) => {
-            let Standing::Server(old_role, old_term, old_applied, old_last) = before else {
-                return Ok(words);
-            };
-            push_role(&mut words, old_role, old_term, role, term)?;
-            push_log(&mut words, old_last, last)?;
-            push_commit(&mut words, old_applied, applied)?;
+    match (before, after) {
+        (Standing::Server(before), Standing::Server(after)) => {
+            push_server(&mut words, before, after)?;
         }
-        Standing::Client(up, seen) => {
-            let Standing::Client(was_up, old_seen) = before else {
-                return Ok(words);
-            };
-            push_client(&mut words, was_up, up, old_seen, seen)?;
+        (Standing::Client(before), Standing::Client(after)) => {
+            push_client(&mut words, before, after)?;
         }
-        Standing::None => {}
+        _ => {}
     }
     Ok(words)
 }
 
-/// A word more, with a comma before it where there are others.
-pub(crate) fn push_word(words: &mut String, word: &str) -> Result<(), NoMemory> {
-    if !words.is_empty() {
-        words.push_str(", ")?;
-    }
-    words.push_str(word)?;
-    Ok(())
+fn push_server(
+    words: &mut String,
+    before: ServerStanding,
+    after: ServerStanding,
+) -> Result<(), NoMemory>
+    ensures { OnOk result (string_bytes words.new
+        ≡ with_server before after (string_bytes words.old)) }
+{
+    push_role(words, before, after)?;
+    push_log(words, before.last, after.last)?;
+    push_commit(words, before.applied, after.applied)
 }
 
 // That a server leads a term, or what else it does now, and a later term.
 fn push_role(
     words: &mut String,
-    old_role: Option<Role>,
-    old_term: u64,
-    role: Option<Role>,
-    term: u64,
-) -> Result<(), NoMemory> {
-    if role == Some(Role::Leader) && (old_role != role || old_term != term) {
-        push_word(words, "leads ")?;
-        write!(words, "t{term}")?;
+    before: ServerStanding,
+    after: ServerStanding,
+) -> Result<(), NoMemory>
+    ensures { OnOk result (string_bytes words.new
+        ≡ with_role before after (string_bytes words.old)) }
+{
+    if !leads(after.role) {
+        push_doing(words, before.role, after.role)?;
+        return push_term(words, before.term, after.term);
+    }
+    if leads(before.role) && before.term == after.term {
         return Ok(());
     }
-    if old_role != role {
-        push_word(words, role_word(role))?;
+    let term = after.term;
+    part(words)?;
+    write!(words, "leads t{term}")?;
+    Ok(())
+}
+
+fn leads(role: Option<Role>) -> bool
+    ensures { result ≡ leads role }
+{
+    match role {
+        Some(Role::Leader) => true,
+        _ => false,
     }
-    if old_term < term {
-        push_word(words, "t")?;
-        write!(words, "{term}")?;
+}
+
+fn is_same_role(before: Option<Role>, after: Option<Role>) -> bool
+    ensures { result ≡ same_role before after }
+{
+    match (before, after) {
+        (None, None) => true,
+        (Some(Role::Follower), Some(Role::Follower)) => true,
+        (Some(Role::Candidate), Some(Role::Candidate)) => true,
+        (Some(Role::Leader), Some(Role::Leader)) => true,
+        _ => false,
+    }
+}
+
+fn push_doing(words: &mut String, before: Option<Role>, after: Option<Role>) -> Result<(), NoMemory>
+    ensures { OnOk result (string_bytes words.new
+        ≡ with_doing before after (string_bytes words.old)) }
+{
+    if is_same_role(before, after) {
+        return Ok(());
+    }
+    push_word(words, role_word(after))
+}
+
+fn push_term(words: &mut String, before: u64, after: u64) -> Result<(), NoMemory>
+    ensures { OnOk result (string_bytes words.new
+        ≡ with_term before after (string_bytes words.old)) }
+{
+    if before < after {
+        part(words)?;
+        write!(words, "t{after}")?;
     }
     Ok(())
 }
 
 // How long its log is, where that is another length now.
-fn push_log(words: &mut String, old_last: u64, last: u64) -> Result<(), NoMemory> {
-    if old_last != last {
-        push_word(words, "log ")?;
-        write!(words, "@{last}")?;
+fn push_log(words: &mut String, before: u64, after: u64) -> Result<(), NoMemory>
+    ensures { OnOk result (string_bytes words.new
+        ≡ with_log before after (string_bytes words.old)) }
+{
+    if before != after {
+        part(words)?;
+        write!(words, "log @{after}")?;
     }
     Ok(())
 }
 
-fn push_commit(words: &mut String, old_applied: u64, applied: u64) -> Result<(), NoMemory> {
-    if old_applied < applied {
-        push_word(words, "commit ")?;
-        write!(words, "{applied}")?;
+fn push_commit(words: &mut String, before: u64, after: u64) -> Result<(), NoMemory>
+    ensures { OnOk result (string_bytes words.new
+        ≡ with_commit before after (string_bytes words.old)) }
+{
+    if before < after {
+        part(words)?;
+        write!(words, "commit {after}")?;
     }
     Ok(())
 }
 
 fn push_client(
     words: &mut String,
-    was_up: bool,
-    up: bool,
-    old_seen: u64,
-    seen: u64,
-) -> Result<(), NoMemory> {
-    if was_up != up {
-        push_word(words, if up { "up" } else { "down" })?;
+    before: ClientStanding,
+    after: ClientStanding,
+) -> Result<(), NoMemory>
+    ensures { OnOk result (string_bytes words.new
+        ≡ with_client before after (string_bytes words.old)) }
+{
+    push_up(words, before.up, after.up)?;
+    if after.up {
+        push_seen(words, before.seen, after.seen)?;
     }
-    if up && old_seen < seen {
-        push_word(words, "seen ")?;
-        write!(words, "{seen}")?;
+    Ok(())
+}
+
+fn push_up(words: &mut String, before: bool, after: bool) -> Result<(), NoMemory>
+    ensures { OnOk result (string_bytes words.new
+        ≡ with_up before after (string_bytes words.old)) }
+{
+    match (before, after) {
+        (false, true) => push_word(words, "up"),
+        (true, false) => push_word(words, "down"),
+        _ => Ok(()),
+    }
+}
+
+fn push_word(words: &mut String, word: &str) -> Result<(), NoMemory>
+    ensures { OnOk result (string_bytes words.new ≡ with_word (string_bytes words.old) word.now) }
+{
+    part(words)?;
+    words.push_str(word)?;
+    Ok(())
+}
+
+fn push_seen(words: &mut String, before: u64, after: u64) -> Result<(), NoMemory>
+    ensures { OnOk result (string_bytes words.new
+        ≡ with_seen before after (string_bytes words.old)) }
+{
+    if before < after {
+        part(words)?;
+        write!(words, "seen {after}")?;
     }
     Ok(())
 }

@@ -1,11 +1,20 @@
-use Rattle.std.proofs.Common.{◌∙◌, ap, length, map, string_bytes}
-use Rattle.std.proofs.lemmas.List.{length-map}
+use Rattle.std.proofs.Common.{◌∷◌, ◌∙◌, ap, map, string_bytes}
 use Rattle.playback.proofs.LineTexts.{on_ok}
+use Rattle.playback.specs.Lines.{lines_text}
 use Rattle.telling.proofs.lines.tell.Goals as goal
 
 pub returns-clause-lines : goal.returns-clause-lines
 returns-clause-lines g c =
-    let lines = c.deref.result.now in
+    let told = c.in_ok-lines.ensures in
     on_ok c.print_lines.result
-    (λ told. (map string_bytes lines, length-map lines string_bytes ∙ (ap length c.deref.ensures.value ∙ c.in_ok-lines.ensures), told))
+    (λ printed. (
+      told.0,
+      (
+        (c.in_ok-world.world, (c.in_ok-world.ensures.new, told.1.1.0)),
+        (
+          told.1.0,
+          rw (ap (map string_bytes) c.deref.ensures.value ∙ told.1.1.1) at printed,
+        ),
+      ),
+    ))
     c.print_lines.ensures.lines
