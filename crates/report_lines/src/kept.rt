@@ -1,8 +1,4 @@
 //! Tables that are laid out moment by moment, whose rows mostly stay.
-ghost use Rattle.std.specs.Prelude.{◌<◌, ℕ, IfOk, IfSome, length};
-ghost use Rattle.report_lines.specs.Changes.{ArePlaces};
-ghost use Rattle.report_lines.specs.Inner.Lines.{Grows};
-
 use crate::grid::{Grid, line_of, widen_row};
 use crate::texts::Texts;
 use rows::NoMemory;
@@ -124,11 +120,7 @@ impl<K: RowKey> KeptTable<K> {
         alloc: Global,
         texts: &mut Texts,
         old: &[usize],
-    ) -> Result<Vec<usize>, NoMemory>
-        requires { ArePlaces (length texts.old) old.now }
-        ensures places { IfOk result (λ places. ArePlaces (length texts.new) places.items) }
-        ensures grows { Grows texts.old texts.new }
-    {
+    ) -> Result<Vec<usize>, NoMemory> {
         let widths = self.row_widths(alloc)?;
         let known = known_places(&widths, &self.widths, old);
         let mut places = Vec::new(alloc);
@@ -165,9 +157,7 @@ impl<K: RowKey> KeptTable<K> {
 }
 
 // The places of lines of these widths, where they were made with those.
-fn known_places<'a>(widths: &[usize], old_widths: &[usize], old: &'a [usize]) -> &'a [usize]
-    ensures { (count : ℕ) → ArePlaces count old.now → ArePlaces count result.now }
-{
+fn known_places<'a>(widths: &[usize], old_widths: &[usize], old: &'a [usize]) -> &'a [usize] {
     if widths == old_widths { old } else { &[] }
 }
 
@@ -178,10 +168,7 @@ fn put_heads(
     places: &mut Vec<usize>,
     heads: &[String],
     widths: &[usize],
-) -> Result<(), NoMemory>
-    ensures places { ArePlaces (length texts.old) places.old.items → ArePlaces (length texts.new) places.new.items }
-    ensures grows { Grows texts.old texts.new }
-{
+) -> Result<(), NoMemory> {
     let empty = texts.place_of(alloc, String::new(alloc))?;
     places.push(empty)?;
     let line = line_of(alloc, heads, widths)?;
@@ -198,11 +185,7 @@ fn place_of(
     cells: &[String],
     was: Option<usize>,
     widths: &[usize],
-) -> Result<usize, NoMemory>
-    requires { ArePlaces (length texts.old) old.now }
-    ensures place { IfOk result (λ place. place < length texts.new) }
-    ensures grows { Grows texts.old texts.new }
-{
+) -> Result<usize, NoMemory> {
     if let Some(place) = old_place(old, was) {
         return Ok(place);
     }
@@ -211,9 +194,7 @@ fn place_of(
 }
 
 // Where the line of the row stands that this one was.
-fn old_place(old: &[usize], was: Option<usize>) -> Option<usize>
-    ensures { (count : ℕ) → ArePlaces count old.now → IfSome result (λ place. place < count) }
-{
+fn old_place(old: &[usize], was: Option<usize>) -> Option<usize> {
     let at = was?.saturating_add(BEFORE_ROWS);
     old.get(at).copied()
 }

