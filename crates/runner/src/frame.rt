@@ -19,7 +19,7 @@ body.below { flex-direction: column; }
 #run svg { display: block; width: 100%; max-width: var(--wide); height: auto; }
 body.below #run { flex: 1 1 0; max-width: none; }
 body.below #run svg { min-width: calc(0.6 * var(--wide)); }
-#heads { position: sticky; top: 0; height: 0; z-index: 1; }
+#heads { position: sticky; top: 0; height: 0; z-index: 2; }
 #heads svg { border-bottom: 1px solid var(--rule); }
 aside { flex: 1 1 0; min-width: 0; display: flex; flex-direction: column; padding: 0.5em 0 0 1em;
   box-sizing: border-box; border-left: 1px solid var(--rule); font: 12px/1.4 sans-serif; }
@@ -29,15 +29,16 @@ h1 { font-size: 14px; margin: 0; }
 aside p { margin: 0.4em 0; }
 details, form { color: var(--soft); }
 #event { font-weight: bold; }
-#standing { flex: 1 1 0; min-height: 0; overflow: auto; font: 11px/1.4 monospace; white-space: pre; }
-#lines { columns: 50em; column-gap: 2em; }
+#standing { flex: 1 1 0; min-height: 0; overflow: auto; font: 11px/1.4 monospace; }
+#lines { white-space: pre; columns: 50em; column-gap: 2em; }
 #lines div { min-height: 1.4em; padding-left: 1.4em; position: relative; overflow: visible; }
 #lines .gap + div { break-after: avoid; }
 #lines .came { background: var(--came); }
 #lines .came::before { content: "+"; position: absolute; left: 0.3em; font-weight: bold; }
-rect.event:hover, rect.shown { fill: var(--shown); fill-opacity: 0.18; }
+#mark { position: absolute; left: 0; z-index: 1; pointer-events: none; will-change: top;
+  background: var(--shown); opacity: 0.18; }
+#mark.kept { opacity: 0.3; }
 rect.found { fill: var(--found); fill-opacity: 0.1; }
-rect.found.shown { fill: var(--shown); fill-opacity: 0.3; }
 :focus-visible { outline: 1px solid var(--shown); outline-offset: -1px; }
 #paper { display: none; }
 @media screen and (prefers-color-scheme: dark) {
@@ -62,7 +63,7 @@ rect.found.shown { fill: var(--shown); fill-opacity: 0.3; }
   body, body.below { display: block; height: auto; }
   #run, body.below #run { max-width: none; overflow: visible; }
   #run svg, body.below #run svg { min-width: 0; max-width: 100%; }
-  #heads, form, details { display: none; }
+  #heads, #mark, form, details { display: none; }
   body.paper #run defs { visibility: visible; }
   body.paper #run { position: absolute; width: 0; height: 0; overflow: hidden;
     visibility: hidden; }
@@ -72,8 +73,8 @@ rect.found.shown { fill: var(--shown); fill-opacity: 0.3; }
   #paper tr { break-inside: avoid; }
   #paper td { padding: 0; }
   aside { display: block; border: 0; padding: 0; break-before: page; }
-  #standing { overflow: visible; white-space: pre-wrap; }
-  #lines { columns: auto; }
+  #standing { overflow: visible; }
+  #lines { white-space: pre-wrap; columns: auto; }
   #lines .came { background: none; }
   #lines .came::before { content: none; }
 }
@@ -84,7 +85,8 @@ rect.found.shown { fill: var(--shown); fill-opacity: 0.3; }
 "#;
 
 // What stands between the picture and what is told: where it is shown.
-pub(crate) const MIDDLE: &str = r#"</main>
+pub(crate) const MIDDLE: &str = r#"<div id="mark"></div>
+</main>
 <div id="paper"></div>
 <aside aria-labelledby="stands">
 <header>
@@ -103,8 +105,8 @@ from event to event. Enter goes on to what is found, Shift+Enter back.
 </header>
 <p id="event" aria-live="polite"></p>
 <div id="standing" role="region" aria-label="How the group stands, line by line" tabindex="0">
-<div id="lines" aria-live="polite" aria-relevant="additions">Without scripts nothing is told
-here.</div>
+<div id="lines" aria-live="polite" aria-relevant="additions"
+>Without scripts nothing is told here.</div>
 </div>
 </aside>
 "#;
@@ -125,6 +127,7 @@ const standing = named("lines");
 const asked = named("asked");
 const found = named("found");
 const paper = named("paper");
+const mark = named("mark");
 const picture = run.querySelector("svg");
 const group = picture.querySelector("svg > g");
 const wide = Number(picture.getAttribute("width"));
@@ -193,7 +196,7 @@ function markChanges(moment) {
   const older = moment > 0 ? linesAt(moment - 1) : [];
   let moved = 0;
   for (const [at, gone, come] of moment > 0 ? told.moments[moment] : []) {
-    const went = new Set(older.slice(at, at + gone).map(squeezed));
+    const went = new Set(["", ...older.slice(at, at + gone).map(squeezed)]);
     come.forEach((place, n) => {
       if (!went.has(squeezed(place))) { standing.children[at + moved + n].classList.add("came"); }
     });
@@ -203,11 +206,10 @@ function markChanges(moment) {
   if (first) { first.scrollIntoView({ block: "nearest" }); }
 }
 function show(moment) {
-  if (shown > 0) { rows[shown - 1].classList.remove("shown"); }
-  if (moment > 0) { rows[moment - 1].classList.add("shown"); }
   put(changesTo(moment));
   shown = moment;
   markChanges(moment);
+  placeMark();
   named("event").textContent =
     moment > 0 ? `Event ${says[moment - 1]}` : "Before the first event";
 }
@@ -219,6 +221,17 @@ function scrollTo(moment) {
   const off = Math.min(row.top - top, 0) + Math.max(row.top - bottom, 0);
   const isFar = Math.abs(off) > run.clientHeight / 2;
   run.scrollTop += isFar ? row.top - (top + bottom) / 2 : off;
+}
+// It lies over the picture, so that this, which may be large, is not painted anew.
+function placeMark() {
+  mark.hidden = shown < 1;
+  mark.classList.toggle("kept", isKept);
+  if (shown < 1) { return; }
+  const row = rows[shown - 1];
+  const scale = picture.getBoundingClientRect().width / wide;
+  mark.style.top = `${row.getAttribute("y") * scale}px`;
+  mark.style.width = `${wide * scale}px`;
+  mark.style.height = `${row.getAttribute("height") * scale}px`;
 }
 function keep(moment) {
   isKept = true;
@@ -306,10 +319,11 @@ function placeHeads() {
 run.addEventListener("scroll", placeHeads);
 function fit() {
   const isBelow = 0.85 * wide + 500 > innerWidth;
-  const room = Math.max(0.85 * wide, Math.min(wide, innerWidth - 600));
+  const room = Math.max(0.85 * wide, Math.min(wide, innerWidth - 640));
   document.body.classList.toggle("below", isBelow);
   run.style.width = isBelow ? "" : `${room + run.offsetWidth - run.clientWidth}px`;
   placeHeads();
+  placeMark();
 }
 addEventListener("resize", fit);
 
