@@ -36,14 +36,16 @@ details, form { color: var(--soft); }
 #lines .came { background: var(--came); }
 #lines .came::before { content: "+"; position: absolute; left: 0.3em; font-weight: bold; }
 #mark { position: absolute; left: 0; z-index: 1; pointer-events: none; will-change: top;
-  background: var(--shown); opacity: 0.18; }
-#mark.kept { opacity: 0.3; }
+  background: #f8ead2; mix-blend-mode: multiply; }
+#mark.kept { background: #f2d9ad; }
 rect.found { fill: var(--found); fill-opacity: 0.1; }
 :focus-visible { outline: 1px solid var(--shown); outline-offset: -1px; }
 #paper { display: none; }
 @media screen and (prefers-color-scheme: dark) {
   :root { --ground: #16181c; --ink: #e8e8e8; --soft: #b4b8be; --rule: #8b9098;
     --shown: #e0a03a; --found: #7fb2e5; --came: #1f4a30; }
+  #mark { background: #221a08; mix-blend-mode: screen; }
+  #mark.kept { background: #33280c; }
   svg [fill='#ffffff'] { fill: #16181c; }
   svg [fill='#000000'] { fill: #e8e8e8; }
   svg [fill='#444444'] { fill: #b4b8be; }
