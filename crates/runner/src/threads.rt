@@ -4,10 +4,9 @@ ghost use Rattle.std.specs.Io.KnownBytes.{Appends};
 ghost use Rattle.cells.specs.Actors.{group_size, own_event};
 ghost use Rattle.group_inputs.specs.Events.{group_event};
 ghost use Rattle.runner.specs.Inner.Printed.{lost_line};
-ghost use Rattle.runner.specs.Inner.Closed.{AreWhole, TellsClosed, TellsOnThreads};
+ghost use Rattle.runner.specs.Inner.Closed.{AreWhole, TellsClosed, TellsLinesOn, TellsOnThreads};
 ghost use Rattle.file_runs.specs.Faults.{IsOfRun, IsPastReading};
-ghost use Rattle.file_runs.specs.Plays.{TellsSteps};
-ghost use Rattle.runner.specs.Inner.ThreadSteps.{IsDelivery, RefusedOnThreads, TakenOnThreads};
+ghost use Rattle.runner.specs.ThreadSteps.{IsDelivery, RefusedOnThreads, TakenOnThreads};
 ghost use Rattle.runner.specs.Told.{TellsThreads};
 ghost use Rattle.scenario_file.specs.Complaints.{IsGood};
 ghost use Rattle.scenario_file.specs.Objects.{step_lines};
@@ -79,10 +78,11 @@ struct OnThreads<B: BookId, R> {
 }
 
 impl<B: BookId, R: Wait> Stage for OnThreads<B, R> {
-    ghost Takes = { λ step old new. TakenOnThreads (group_size B.actors) step };
+    ghost Takes = { λ step old new.
+        (new ≡ old) × TakenOnThreads (group_size B.actors) step };
 
-    ghost Refuses = { λ step old refusal new.
-        RefusedOnThreads (group_size B.actors) old.group.value.cells.actors step refusal };
+    ghost Refuses = { λ step old refusal new. (new ≡ old)
+        × RefusedOnThreads (group_size B.actors) old.group.value.cells.actors step refusal };
 
     // Workers run by themselves, and messages come by themselves.
     fn take(&mut self, step: Step) -> Result<(), Refusal> {
@@ -183,7 +183,9 @@ fn group<B: BookId>(
 // One more hold of a group.
 fn held<B: BookId>(
     group: &Arc<RunningGroup<B, OpenGate>, Global>,
-) -> Result<Arc<RunningGroup<B, OpenGate>, Global>, NoMemory> {
+) -> Result<Arc<RunningGroup<B, OpenGate>, Global>, NoMemory>
+    ensures { IfOk result (λ hold. hold.value ≡ group.now.value) }
+{
     Ok(Arc::try_clone(group)?)
 }
 
@@ -239,8 +241,8 @@ where
     requires book { opened ≡ (B.table, B.actors) }
     requires nodes { scenario.now.nodes.items ≡ B.nodes }
     ensures status { IfOk result (λ played. played.0 ≤ 1) }
-    ensures told { IfOk result (λ played. TellsSteps (step_lines scenario.now) played.0
-        (W.contents out.old) (W.contents out.new)) }
+    ensures told { IfOk result (λ played. TellsLinesOn (group_size B.actors) B.actors
+        (step_lines scenario.now) played.0 (W.contents out.old) (W.contents out.new)) }
     ensures whole { IfOk result (λ played. AreWhole played.1.servers played.1.clients B.actors
         played.1.cells.items) }
     ensures servers { IfOk result (λ played. played.1.servers ≡ scenario.now.settings.servers) }
@@ -254,18 +256,39 @@ where
         // A group of a scenario's size is made, unless there is no memory.
         Err(_) => return Err(Fault::NoMemory),
     };
-    let mut stage = OnThreads {
-        rt,
-        group: held(&group)?,
-    };
     let threads = start(rt, alloc, &group, workers)?;
-    let played = play_steps(alloc, out, &mut stage, scenario);
-    drop(stage);
+    let played = play_on(rt, alloc, out, &group, scenario);
     // Nobody else has the group once its threads have ended.
     let group = stop(&rt, group, threads).ok_or(Fault::NoMemory)?;
     // Where the standard error fails, the run goes on.
     let _ = tell_lost(err, group.lost_messages());
     Ok((played?, group.into_cells().into_cells()?))
+}
+
+// Plays the steps on a group whose threads run: says each refused step at once.
+fn play_on<'a, B, W, R>(
+    rt: R,
+    alloc: Global,
+    out: &mut W,
+    group: &Arc<RunningGroup<B, OpenGate>, Global>,
+    scenario: &Scenario,
+) -> Result<u8, Fault<'a>>
+where
+    B: BookId,
+    W: Write,
+    R: Wait + Copy,
+    requires { group.now.value.cells.actors ≡ B.actors }
+    ensures most { IfOk result (λ status. status ≤ 1) }
+    ensures told { IfOk result (λ status. TellsLinesOn (group_size B.actors) B.actors
+        (step_lines scenario.now) status (W.contents out.old) (W.contents out.new)) }
+    ensures past { IfErr result (λ fault. IsGood scenario.now → IsPastReading fault) }
+    ensures of_run { IfErr result IsOfRun }
+{
+    let mut stage = OnThreads {
+        rt,
+        group: held(group)?,
+    };
+    play_steps(alloc, out, &mut stage, scenario)
 }
 
 // Closes a group, writes the transcript of the world to which its cells close where one is asked
