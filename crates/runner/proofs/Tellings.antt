@@ -71,7 +71,7 @@ module _ {S : Type 0} (n : ℕ) (actors_in : S → List Actor) where
 
   abbrev LineOn : List Actor → List ℕ → List Refused → Type 0
   LineOn all line refused =
-      LinePlayed {Unit {0}} (λ step old new. TakenOnThreads n step) (λ step old refusal new. RefusedOnThreads n all step refusal) line tt refused tt
+      LinePlayed {S = Unit {0}} (λ step old new. TakenOnThreads n step) (λ step old refusal new. RefusedOnThreads n all step refusal) line tt refused tt
 
   line_on : (line : List ℕ) (old new : S) (refused : List Refused) → LinePlayed StaysTaken StaysRefused line old refused new → (new ≡ old) × LineOn (actors_in old) line refused
   line_on line old new refused played =

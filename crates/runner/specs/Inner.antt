@@ -2,3 +2,4 @@
 pub mod Faults
 pub mod Printed
 pub mod Closed
+pub mod Actors

@@ -43,5 +43,5 @@ RefusedOnThreads n all (Flow count) refusal = ⊥
 -- was refused of them
 abbrev pub LinesOnThreads : ℕ → List Actor → List (List ℕ) → List Refused → Type 0
 LinesOnThreads n all lines refused =
-    LinesPlayed {Unit {0}} (λ step old new. TakenOnThreads n step) (λ step old refusal new. RefusedOnThreads n all step refusal)
-        lines tt refused tt
+    LinesPlayed {S = Unit {0}} (λ step old new. TakenOnThreads n step) (λ step old refusal new. RefusedOnThreads n all step refusal)
+    lines tt refused tt

@@ -3,6 +3,7 @@ ghost use Rattle.std.specs.Prelude.{◌≡◌, ◌≢◌, ◌≤◌, ◌⊎◌, 
 ghost use Rattle.std.specs.Io.KnownBytes.{Appends};
 ghost use Rattle.cells.specs.Actors.{group_size, own_event};
 ghost use Rattle.group_inputs.specs.Events.{group_event};
+ghost use Rattle.runner.specs.Inner.Actors.{actors_of, first_servers};
 ghost use Rattle.runner.specs.Inner.Printed.{lost_line};
 ghost use Rattle.runner.specs.Inner.Closed.{AreWhole, TellsClosed, TellsLinesOn, TellsOnThreads};
 ghost use Rattle.file_runs.specs.Faults.{IsOfRun, IsPastReading};
@@ -124,12 +125,12 @@ fn handed(event: Event) -> Option<(Actor, OwnInput)>
 }
 
 // The actors of a scenario's group: its servers, and a client for each node.
-fn actors(alloc: Global, scenario: &Scenario) -> Result<Vec<Actor>, Refusal> {
-    let mut actors = Vec::new(alloc);
-    for position in 0..usize::from(scenario.settings.servers) {
-        let server = ServerId::from_position(position).ok_or(Refusal::OutOfRange)?;
-        actors.push(Actor::Server(server))?;
-    }
+#[tactic(auto, using(crate::proofs::Seats::one_client_more))]
+fn actors(alloc: Global, scenario: &Scenario) -> Result<Vec<Actor>, Refusal>
+    ensures { IfOk result (λ actors. actors.items
+        ≡ actors_of scenario.now.settings.servers scenario.now.nodes.items) }
+{
+    let mut actors = first_servers(alloc, usize::from(scenario.settings.servers))?;
     for node in &scenario.nodes {
         let client = ClientId::from_number(node.number.number()).ok_or(Refusal::OutOfRange)?;
         actors.push(Actor::Client(client))?;
@@ -137,11 +138,29 @@ fn actors(alloc: Global, scenario: &Scenario) -> Result<Vec<Actor>, Refusal> {
     Ok(actors)
 }
 
-fn opened(alloc: Global, scenario: &Scenario) -> Result<OpenedBook<OwnInput>, Refusal> {
+// So many servers.
+#[tactic(auto, using(crate::proofs::Seats::one_server_more))]
+fn first_servers(alloc: Global, count: usize) -> Result<Vec<Actor>, Refusal>
+    ensures { IfOk result (λ actors. actors.items ≡ first_servers count) }
+{
+    let mut actors = Vec::new(alloc);
+    for position in 0..count {
+        let server = ServerId::from_position(position).ok_or(Refusal::OutOfRange)?;
+        actors.push(Actor::Server(server))?;
+    }
+    Ok(actors)
+}
+
+fn opened(alloc: Global, scenario: &Scenario) -> Result<OpenedBook<OwnInput>, Refusal>
+    ensures { IfOk result (λ book. book.1
+        ≡ actors_of scenario.now.settings.servers scenario.now.nodes.items) }
+{
     OpenedBook::new(alloc, actors(alloc, scenario)?)
 }
 
 fn open_book<'a>(alloc: Global, scenario: &Scenario) -> Result<OpenedBook<OwnInput>, Fault<'a>>
+    ensures actors { IfOk result (λ book. book.1
+        ≡ actors_of scenario.now.settings.servers scenario.now.nodes.items) }
     ensures past { IfErr result IsPastReading }
     ensures of_run { IfErr result IsOfRun }
 {
