@@ -6,10 +6,10 @@ ghost use Rattle.group_model.specs.Brokers.{task_of};
 ghost use Rattle.inspection.specs.Inner.Deliveries.{delivery_word};
 
 use crate::deliveries::{Sent, last_of, sent_deliveries};
-use crate::shown::{eval_text, token_text};
 use eval_broker::Broker;
 use fsm_state::Cluster;
 use inspection_reports::{BeatReport, BlockedReport, DeliveryReport, DeskReport, PlanReport};
+use labels::{eval_text, token_text};
 use leader::Desk;
 use plan_queue::QueuedPlan;
 use raft_core::Role;

@@ -1,8 +1,8 @@
 //! What a server stores: its vote, and its log.
 use crate::commands::command_text;
-use crate::shown::role_word;
 use fsm_state::Cluster;
 use inspection_reports::{EntryReport, ServerReport};
+use labels::role_word;
 use machine::{Coded, Entry};
 use rows::{NoMemory, ServerId};
 use server::Server;

@@ -5,8 +5,9 @@ ghost use Rattle.inspection.specs.declared.fault.InspectError.TheVariants as err
 
 use crate::fault::InspectError;
 use crate::gathering::gather;
-use crate::group::{begin, take};
+use crate::group::begin;
 use group_inputs::Event;
+use playback::take;
 use report_lines::report_lines;
 use rows::{NoMemory, NodeSpec};
 use std::alloc::Global;

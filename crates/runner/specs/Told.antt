@@ -5,11 +5,13 @@ use Rattle.rows.specs.declared.actor.Actor.{Actor}
 use Rattle.world.specs.GroupView.{GroupView, nodes_of, renumbered}
 use Rattle.cells.specs.Cells.{CellView}
 use Rattle.cluster.specs.Closing.{ClosesTo}
-use Rattle.event_texts.specs.Transcripts.{IsTranscript, Recorded}
+use Rattle.event_texts.specs.Transcripts.{IsTranscript, Recorded, recorded}
+use Rattle.event_texts.specs.declared.transcript.Transcript.{Transcript}
 use Rattle.transcript.specs.Records.{record_of}
 use Rattle.runner.specs.Pages.{GrowsByPage}
 use Rattle.picture.specs.Pictures.{GrowsByPicture}
-use Rattle.inspection.specs.Told.{GrowsByEventLines, GrowsByLines}
+use Rattle.inspection.specs.Told.{GrowsByLines}
+use Rattle.telling.specs.Told.{GrowsByEventLines}
 pub use Rattle.command_line.specs.Words.{AskFor, AskForThreads, words_fault}
 use Rattle.command_line.specs.declared.command.CommandLine.{CommandLine}
 use Rattle.command_line.specs.declared.command.CommandLine.TheVariants.{Run, Threads, Replay, Draw, Check, Tell, Inspect, Expand, Sweep}
@@ -70,9 +72,9 @@ pub record TellsPicture (file : Option (List ℕ)) (html : Bool) (status : ℕ) 
 
 -- a transcript was told event by event: that of the file, where its bytes are known
 pub record TellsEach (file : Option (List ℕ)) (status : ℕ) (old new : Option (List ℕ)) : Type 0 where
-  pub recorded : Recorded
-  pub read : IfSome file (IsTranscript recorded)
-  pub lines : GrowsByEventLines (length recorded.events) old new
+  pub transcript : Transcript
+  pub read : IfSome file (IsTranscript (recorded transcript))
+  pub lines : GrowsByEventLines transcript.servers transcript.nodes.items transcript.events.items old new
   pub taken : status ≡ 0
 
 -- after how many of so many events, by what was given: after all, where nothing was

@@ -2,7 +2,6 @@
 ghost use Rattle.std.specs.Prelude.{◌≡◌, ◌≢◌, ◌⊎◌, IfErr, IfOk, OnOk, length};
 ghost use Rattle.runner.specs.Pages.{GrowsByPage};
 ghost use Rattle.picture.specs.Pictures.{GrowsByPicture};
-ghost use Rattle.picture.specs.declared.fault.DrawError.TheVariants as errors;
 ghost use Rattle.file_runs.specs.declared.fault.Fault.TheVariants as faults;
 ghost use Rattle.file_runs.specs.Faults.{IsOfRun, IsPastReading, MayStopPrinting};
 ghost use Rattle.runner.specs.Inner.Faults.{drawing_fault};
@@ -13,10 +12,10 @@ use file_runs::fault::Fault;
 use file_runs::replaying::transcript_of;
 use file_runs::running::load_bytes;
 use file_runs::shelf::Shelf;
-use inspection::event_lines;
 use picture::{DrawError, draw};
 use std::alloc::Global;
 use std::io::Write;
+use telling::event_lines;
 use transcript::Transcript;
 
 /// Draws what a transcript says, as a picture or as a page.

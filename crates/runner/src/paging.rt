@@ -7,11 +7,13 @@ ghost use Rattle.runner.specs.Pages.{IsLinesJson, IsPlacesJson, GrowsByPage, IsM
 
 use crate::script::in_script;
 use group_inputs::Event;
-use inspection::{InspectError, Moments, each_moment, event_lines};
+use inspection::{InspectError, Moments, each_moment};
 use picture::{DrawError, picture};
+use playback::PlaybackError;
 use rows::{NoMemory, NodeSpec};
 use std::alloc::Global;
 use std::io::Write;
+use telling::event_lines;
 
 // What stands before the picture.
 const FRONT: &str = "\
@@ -163,7 +165,7 @@ fn told_of(
 {
     match event_lines(alloc, servers, nodes, events) {
         Ok(lines) => Ok(lines),
-        Err(InspectError::Group) => Err(DrawError::Group),
+        Err(PlaybackError::Group) => Err(DrawError::Group),
         Err(_) => Err(DrawError::NoMemory),
     }
 }

@@ -1,6 +1,6 @@
 -- Tokens are fencing tokens.
-use Rattle.std.proofs.Common.{◌≡◌, ℕ, ◌≤◌, ◌<◌, ◌&&◌, nat_eq, inl, inr, Option, Some, None, [], ◌∷◌, ◌++◌, length, take, take-take, refl, sym, ap, ◌∙◌, subst, arith, slice_get}
-use Rattle.std.proofs.lemmas.Bool.{and_parts, eqb-true}
+use Rattle.std.proofs.Common.{◌≡◌, ℕ, ◌≤◌, ◌<◌, ◌&&◌, nat_eq, true, inl, inr, Option, Some, None, [], ◌∷◌, ◌++◌, length, take, take-take, refl, sym, ap, ◌∙◌, subst, arith, slice_get}
+use Rattle.std.proofs.lemmas.Bool.{and_parts, and_from, eqb-true, eq-eqb}
 use Rattle.std.proofs.lemmas.Option.{same_Some}
 use Rattle.rows.specs.declared.evaluation.EvalId.{EvalId}
 use Rattle.rows.specs.declared.token.Token.{Token}
@@ -12,8 +12,8 @@ use Rattle.raft_model.proofs.Cases.{bool_cases}
 use Rattle.raft_safety.proofs.Places.{get-where, get-one, get-within, get-more, get-last, push_length, take_append}
 use Rattle.cluster_model.specs.Words.{same_eval}
 use Rattle.spec.specs.Spec.{SpecState, init, state_of, Action, appends, commits, at_server, starts, delivers, ends, Actions, none, more}
-use Rattle.spec.specs.Safety.{WasPending, WasDelivered, IsFenced}
-use Rattle.spec.proofs.Steps.{same_ids}
+use Rattle.spec.specs.Safety.{WasPending, WasDelivered, IsFenced, HasOneHolder}
+use Rattle.spec.proofs.Steps.{same_ids, same_itself}
 
 plan_is : (a b : AcceptedPlan) → commands.Plan a ≡ commands.Plan b → a ≡ b
 plan_is a b e = cc
@@ -24,6 +24,7 @@ record Kept (g : SpecState) : Type 0 where
   newer : (i j : ℕ) (one two : EvalId × Token) → i < j → slice_get g.delivered i ≡ Some one → slice_get g.delivered j ≡ Some two → one.1.term ≡ two.1.term → one.1.serial < two.1.serial
   pending : (j : ℕ) (pair : EvalId × Token) → slice_get g.delivered j ≡ Some pair → WasPending g pair.0
   out : (term : ℕ) (eval : EvalId) (token : Token) → g.outstanding term eval ≡ Some token → (token.term ≡ term) × WasDelivered g eval token
+  last : (term : ℕ) (eval : EvalId) (token other : Token) → g.outstanding term eval ≡ Some token → WasDelivered g eval other → other.term ≡ term → other.serial ≤ token.serial
   own : (p : ℕ) (e : Entry Command) (plan : AcceptedPlan) → slice_get g.log p ≡ Some e → e.command ≡ commands.Plan plan → plan.token.term ≡ e.term
   delivered : (p : ℕ) (e : Entry Command) (plan : AcceptedPlan) → slice_get g.log p ≡ Some e → e.command ≡ commands.Plan plan → WasDelivered g plan.eval plan.token
   later : (p q : ℕ) (d e : Entry Command) (one two : AcceptedPlan) → p < q → slice_get g.log p ≡ Some d → slice_get g.log q ≡ Some e → d.command ≡ commands.Plan one → e.command ≡ commands.Plan two →
@@ -55,6 +56,7 @@ same_kept g h log given rise fits stays k =
       newer = λ i j one two less at_i at_j. k.newer i j one two less (at_given i one at_i) (at_given j two at_j);
       pending = λ j pair at. pending_stays g h pair.0 rise (ap (take g.committed) log) (k.pending j pair (at_given j pair at));
       out = λ term eval token is. let o = k.out term eval token (stays term eval token is) in (o.0, keep eval token o.1);
+      last = λ term eval token other is d its. k.last term eval token other (stays term eval token is) (d.0, at_given d.0 (eval, other) d.1) its;
       own = λ p e plan at. k.own p e plan (at_log p e at);
       delivered = λ p e plan at is. keep plan.eval plan.token (k.delivered p e plan (at_log p e at) is);
       later = λ p q d e one two less at_p at_q. k.later p q d e one two less (at_log p d at_p) (at_log q e at_q);
@@ -63,6 +65,12 @@ same_kept g h log given rise fits stays k =
 
 same_pair : (a b : EvalId) (s t : Token) → a ≡ b → s ≡ t → ◌≡◌ {A = EvalId × Token} (a, s) (b, t)
 same_pair a b s t e f = (λ i. (e i, f i))
+
+one_pair : (a b : EvalId) (s t : Token) → ◌≡◌ {A = EvalId × Token} (a, s) (b, t) → (a ≡ b) × (s ≡ t)
+one_pair a b s t e = (ap (λ (v : EvalId × Token). v.0) e, ap (λ (v : EvalId × Token). v.1) e)
+
+it_is : (t : ℕ) (e eval : EvalId) (token : Token) → t ≡ token.term → e ≡ eval → (nat_eq t token.term && same_eval e eval) ≡ true
+it_is t e eval token its same = and_from (nat_eq t token.term) (same_eval e eval) (eq-eqb t token.term its) (ap (λ (v : EvalId). same_eval e v) (sym same) ∙ same_itself e)
 
 act : (g h : SpecState) → Kept g → Action g h → Kept h
 act g h k (appends e f) =
@@ -73,6 +81,7 @@ act g h k (appends e f) =
       newer = k.newer;
       pending = λ j pair at. pending_stays g h pair.0 (omega arith) (sym (take_append g.committed g.log (e ∷ []) k.within)) (k.pending j pair at);
       out = k.out;
+      last = k.last;
       own = λ p d plan at is. elim (get-where g.log (e ∷ []) p d at) [
         | inl q ↦ k.own p d plan q.1 is
         | inr q ↦ let o = k.out d.term plan.eval plan.token (mine d plan (get-one e q.1.0 d q.1.1) is) in o.0
@@ -136,6 +145,20 @@ act g h k (delivers eval token m le waits free newest) =
             )
         | inr b ↦ let q = rw b at is in let o = k.out t e other q in (o.0, keep e other o.1)
       ];
+      last = λ t e had other is d its. elim (get-where g.delivered (pair ∷ []) d.0 (e, other) d.1) [
+        | inl r ↦ elim (bool_cases (nat_eq t token.term && same_eval e eval)) [
+          | inl b ↦
+              let q = rw b at is in
+              let now : token ≡ had = same_Some token had q in
+              let less = newest d.0 (e, other) r.1 (its ∙ eqb-true t token.term (and_parts (nat_eq t token.term) (same_eval e eval) b).0) in
+              omega (arith, less, ap (λ (v : Token). v.serial) now)
+          | inr b ↦ let q = rw b at is in k.last t e had other q (d.0, r.1) its
+        ]
+        | inr r ↦
+            let new = one_pair eval e token other (get-one pair r.1.0 (e, other) r.1.1) in
+            let q = rw (it_is t e eval token (sym its ∙ ap (λ (v : Token). v.term) (sym new.1)) (sym new.0)) at is in
+            omega (arith, ap (λ (v : Token). v.serial) (same_Some token had q), ap (λ (v : Token). v.serial) new.1)
+      ];
       own = k.own;
       delivered = λ p e plan at is. keep plan.eval plan.token (k.delivered p e plan at is);
       later = k.later;
@@ -157,6 +180,7 @@ kept n c g none = record {
   newer = λ i j one two less at. absurd (cc);
   pending = λ j pair at. absurd (cc);
   out = λ term eval token is. absurd (cc);
+  last = λ term eval token other is d its. absurd (cc);
   own = λ p e plan at is. absurd (cc);
   delivered = λ p e plan at is. absurd (cc);
   later = λ p q d e one two less at. absurd (cc);
@@ -172,26 +196,62 @@ fenced n c g a =
       newer = k.newer;
       pending = k.pending;
       outstanding = k.out;
+      last = k.last;
       plans = λ p term plan at. (k.own p (entry term plan) plan at refl, k.delivered p (entry term plan) plan at refl);
       later = λ p q term one two less at_p at_q same. k.later p q (entry term one) (entry term two) one two less at_p at_q refl refl same refl;
     }
 
--- no other token takes the place of one that is outstanding
+-- ---- one holder at a time
+
 one_token : (outstanding : ℕ → EvalId → Option Token) (term : ℕ) (eval : EvalId) (one two : Token) → outstanding term eval ≡ Some one → outstanding term eval ≡ Some two → one ≡ two
 one_token outstanding term eval one two a b = same_Some one two (sym a ∙ b)
 
 no_token : {token : Token} → let none : Option Token = None in none ≡ Some token → ⊥
 no_token h = cc
 
-pub one_holder : (g h : SpecState) → Action g h → (term : ℕ) (eval : EvalId) (one two : Token) → g.outstanding term eval ≡ Some one → h.outstanding term eval ≡ Some two → one ≡ two
-one_holder g h (appends e f) term eval one two a b = one_token g.outstanding term eval one two a b
-one_holder g h (commits j rise fits) term eval one two a b = one_token g.outstanding term eval one two a b
-one_holder g h (at_server i old new here m) term eval one two a b = one_token g.outstanding term eval one two a b
-one_holder g h (starts c ids id here new p) term eval one two a b = one_token g.outstanding term eval one two a b
-one_holder g h (ends outstanding stays) term eval one two a b = one_token g.outstanding term eval one two a (stays term eval two b)
-one_holder g h (delivers id token m le waits free newest) term eval one two a b = elim (bool_cases (nat_eq term token.term && same_eval eval id)) [
-  | inl c ↦
-      let parts = and_parts (nat_eq term token.term) (same_eval eval id) c in
-      absurd (no_token (sym free ∙ ((λ i. g.outstanding (sym (eqb-true term token.term parts.0) i) (sym (same_ids eval id parts.1) i)) ∙ a)))
-  | inr c ↦ let q = rw c at b in one_token g.outstanding term eval one two a q
-]
+-- where nothing is delivered, and whatever is outstanding was so
+none_given : (g h : SpecState) → h.delivered ≡ g.delivered → ((term : ℕ) (eval : EvalId) (token : Token) → h.outstanding term eval ≡ Some token → g.outstanding term eval ≡ Some token) →
+    (term : ℕ) (eval : EvalId) → HasOneHolder g h term eval
+none_given g h given stays term eval = record {
+  holds = λ j token its now before. absurd (before (ap (λ l. slice_get l j) (sym given) ∙ now));
+  not_again = λ j one two is its now. ap (λ l. slice_get l j) (sym given) ∙ now;
+  same = λ one two a b. one_token g.outstanding term eval one two a (stays term eval two b);
+  ended = λ token d is. stays term eval token is;
+}
+
+pub one_holder : (g h : SpecState) → Action g h → (term : ℕ) (eval : EvalId) → HasOneHolder g h term eval
+one_holder g h (appends e f) term eval = none_given g h refl (λ term eval token is. is) term eval
+one_holder g h (commits j rise fits) term eval = none_given g h refl (λ term eval token is. is) term eval
+one_holder g h (at_server i old new here m) term eval = none_given g h refl (λ term eval token is. is) term eval
+one_holder g h (starts c ids id here new p) term eval = none_given g h refl (λ term eval token is. is) term eval
+one_holder g h (ends outstanding stays) term eval = none_given g h refl stays term eval
+one_holder g h (delivers id token m le waits free newest) term eval = let pair : EvalId × Token = (id, token) in record {
+  holds = λ j other its now before. elim (get-where g.delivered (pair ∷ []) j (eval, other) now) [
+    | inl q ↦ absurd (before q.1)
+    | inr q ↦
+        let new = one_pair id eval token other (get-one pair q.1.0 (eval, other) q.1.1) in
+        rw (it_is term eval id token (sym its ∙ ap (λ (v : Token). v.term) (sym new.1)) (sym new.0)) (ap Some new.1)
+  ];
+  not_again = λ j one two is its now. elim (get-where g.delivered (pair ∷ []) j (eval, two) now) [
+    | inl q ↦ q.1
+    | inr q ↦
+        let new = one_pair id eval token two (get-one pair q.1.0 (eval, two) q.1.1) in
+        absurd (nobody one (sym its ∙ ap (λ (v : Token). v.term) (sym new.1)) (sym new.0) is)
+  ];
+  same = λ one two a b. elim (bool_cases (nat_eq term token.term && same_eval eval id)) [
+    | inl c ↦
+        let parts = and_parts (nat_eq term token.term) (same_eval eval id) c in
+        absurd (nobody one (eqb-true term token.term parts.0) (same_ids eval id parts.1) a)
+    | inr c ↦ let q = rw c at b in one_token g.outstanding term eval one two a q
+  ];
+  ended = λ other d is. elim (bool_cases (nat_eq term token.term && same_eval eval id)) [
+    | inl c ↦
+        let q = rw c at is in
+        let now : token ≡ other = same_Some token other q in
+        let less = newest d.0 (eval, other) d.1 (ap (λ (v : Token). v.term) (sym now)) in
+        absurd (omega (arith, less, ap (λ (v : Token). v.serial) now))
+    | inr c ↦ rw c at is
+  ];
+} where
+  nobody : (one : Token) → term ≡ token.term → eval ≡ id → g.outstanding term eval ≡ Some one → ⊥
+  nobody one its same a = no_token (sym free ∙ ((λ i. g.outstanding (sym its i) (sym same i)) ∙ a))

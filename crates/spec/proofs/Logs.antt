@@ -21,7 +21,7 @@ use Rattle.raft_safety.proofs.Chains.{st, chain, chain_front, chain_one, list_fi
 use Rattle.raft_safety.proofs.Chains as chains
 use Rattle.group_safety.proofs.Lists.{get_map, map_set}
 use Rattle.spec.specs.Spec.{ServerStep, applies, crashes, restarts}
-use Rattle.spec.specs.LogSpec.{LogState, MayFollow, appends, at_server, Actions, none, more, applied_by, Shows, init, Refines, begins, moves, RefinesLog}
+use Rattle.spec.specs.LogSpec.{LogState, MayFollow, appends, at_server, Actions, none, more, last_applied_by, Shows, init, Refines, begins, moves, RefinesLog}
 
 module _ {S C : Type 0} (m : Meaning S C) where
   -- two parts, one after the other
@@ -35,16 +35,16 @@ module _ {S C : Type 0} (m : Meaning S C) where
   Grows A (e ∷ D) = MayFollow m A e × Grows (A ++ e ∷ []) D
 
   -- so the list gets there
-  pub grows_on : (A D : List (Entry C)) (seen : List (Option ℕ)) → Grows A D → Actions m (record { log = A; applied = seen }) (record { log = A ++ D; applied = seen })
+  pub grows_on : (A D : List (Entry C)) (seen : List (Option ℕ)) → Grows A D → Actions m (record { log = A; last_applied = seen }) (record { log = A ++ D; last_applied = seen })
   unfolding Grows
-  grows_on A [] seen g = subst (λ L. Actions m (record { log = A; applied = seen }) (record { log = L; applied = seen })) (sym (append-nil A)) none
+  grows_on A [] seen g = subst (λ L. Actions m (record { log = A; last_applied = seen }) (record { log = L; last_applied = seen })) (sym (append-nil A)) none
   grows_on A (e ∷ D) seen g =
-      let one : Actions m (record { log = A; applied = seen }) (record { log = A ++ e ∷ []; applied = seen }) = more none (appends e g.0) in
-      subst (λ L. Actions m (record { log = A; applied = seen }) (record { log = L; applied = seen })) (append_assoc A (e ∷ []) D)
+      let one : Actions m (record { log = A; last_applied = seen }) (record { log = A ++ e ∷ []; last_applied = seen }) = more none (appends e g.0) in
+      subst (λ L. Actions m (record { log = A; last_applied = seen }) (record { log = L; last_applied = seen })) (append_assoc A (e ∷ []) D)
       (acts_both _ _ _ one (grows_on (A ++ e ∷ []) D seen g.1))
 
   -- what one server's turn shows
-  pub turn_seen : (n i : ℕ) (sent : List (Message C)) (s t : Raft C) (out : List (Message C)) (long : ℕ) → Turns m n i sent s t out → t.commit ≤ long → (applied_by s ≡ applied_by t) ⊎ ServerStep long (applied_by s) (applied_by t)
+  pub turn_seen : (n i : ℕ) (sent : List (Message C)) (s t : Raft C) (out : List (Message C)) (long : ℕ) → Turns m n i sent s t out → t.commit ≤ long → (last_applied_by s ≡ last_applied_by t) ⊎ ServerStep long (last_applied_by s) (last_applied_by t)
   turn_seen n i sent s t out long turn fits = elim (bool_cases (is_up s.mode)) [
     | inl a ↦ elim (bool_cases (is_up t.mode)) [
       | inl b ↦ inr (rw a (rw b (applies s.commit t.commit (turn_commit m n i sent s t out turn a b) fits)))
@@ -57,21 +57,21 @@ module _ {S C : Type 0} (m : Meaning S C) where
   ]
 
   -- one is written that looks the same
-  set_like : (xs : List (Raft C)) (i : ℕ) (x y : Raft C) → slice_get xs i ≡ Some x → applied_by x ≡ applied_by y → map applied_by (slice_set xs i y) ≡ map applied_by xs
+  set_like : (xs : List (Raft C)) (i : ℕ) (x y : Raft C) → slice_get xs i ≡ Some x → last_applied_by x ≡ last_applied_by y → map last_applied_by (slice_set xs i y) ≡ map last_applied_by xs
   set_like [] i x y h e = absurd (cc)
-  set_like (z ∷ zs) zero x y h e = ap (λ v. v ∷ map applied_by zs) (sym (ap applied_by (same_Some z x h) ∙ e))
-  set_like (z ∷ zs) (suc i) x y h e = ap (λ l. applied_by z ∷ l) (set_like zs i x y h e)
+  set_like (z ∷ zs) zero x y h e = ap (λ v. v ∷ map last_applied_by zs) (sym (ap last_applied_by (same_Some z x h) ∙ e))
+  set_like (z ∷ zs) (suc i) x y h e = ap (λ l. last_applied_by z ∷ l) (set_like zs i x y h e)
 
   -- a step of the world: the servers' part
   pub seen_on : (x y : World C) (event : Event C) (v : Moves m x event y) (list : List (Entry C)) → ((i : ℕ) (s : Raft C) → slice_get y.servers i ≡ Some s → Agree s.commit s.log list) → v.new.commit ≤ length list →
-      Actions m (record { log = list; applied = map applied_by x.servers }) (record { log = list; applied = map applied_by y.servers })
+      Actions m (record { log = list; last_applied = map last_applied_by x.servers }) (record { log = list; last_applied = map last_applied_by y.servers })
   seen_on x y event v list agrees fits =
-      let g : LogState C = record { log = list; applied = map applied_by x.servers } in
-      subst (λ (l : List (Option ℕ)). Actions m g (record { log = list; applied = l })) (ap (map applied_by) (sym v.servers))
+      let g : LogState C = record { log = list; last_applied = map last_applied_by x.servers } in
+      subst (λ (l : List (Option ℕ)). Actions m g (record { log = list; last_applied = l })) (ap (map last_applied_by) (sym v.servers))
       (elim (turn_seen (length x.servers) v.who x.sent v.old v.new v.out (length list) v.path fits) [
-        | inl e ↦ subst (λ (l : List (Option ℕ)). Actions m g (record { log = list; applied = l })) (sym (set_like x.servers v.who v.old v.new v.here e)) none
-        | inr r ↦ subst (λ (l : List (Option ℕ)). Actions m g (record { log = list; applied = l })) (sym (map_set applied_by x.servers v.who v.new))
-            (more none (at_server v.who (applied_by v.old) (applied_by v.new) (get_map applied_by x.servers v.who v.old v.here) r))
+        | inl e ↦ subst (λ (l : List (Option ℕ)). Actions m g (record { log = list; last_applied = l })) (sym (set_like x.servers v.who v.old v.new v.here e)) none
+        | inr r ↦ subst (λ (l : List (Option ℕ)). Actions m g (record { log = list; last_applied = l })) (sym (map_set last_applied_by x.servers v.who v.new))
+            (more none (at_server v.who (last_applied_by v.old) (last_applied_by v.new) (get_map last_applied_by x.servers v.who v.old v.here) r))
       ])
 
 -- ---- a list that was admitted, with rising terms, grows entry by entry
@@ -122,19 +122,19 @@ module _ {S C : Type 0} (m : Meaning S C) where
       (may_follow A e D s r, grows (A ++ e ∷ []) D (subst (λ L. Sound m L) (sym q) s) (subst (λ L. Rising L) (sym q) r))
 
   -- one list is the beginning of the other, which was admitted
-  pub list_on : (A B : List (Entry C)) (seen : List (Option ℕ)) → Agree (length A) A B → Sound m B → Rising B → Actions m (record { log = A; applied = seen }) (record { log = B; applied = seen })
+  pub list_on : (A B : List (Entry C)) (seen : List (Option ℕ)) → Agree (length A) A B → Sound m B → Rising B → Actions m (record { log = A; last_applied = seen }) (record { log = B; last_applied = seen })
   list_on A B seen a s r =
       let D = drop (length A) B in
       let q : A ++ D ≡ B = ap (λ l. l ++ D) (sym (take_all (length A) A (omega arith)) ∙ a.same) ∙ take-append-drop (length A) B in
-      subst (λ L. Actions m (record { log = A; applied = seen }) (record { log = L; applied = seen })) q
+      subst (λ L. Actions m (record { log = A; last_applied = seen }) (record { log = L; last_applied = seen })) q
       (grows_on m A D seen (grows A D (subst (λ L. Sound m L) (sym q) s) (subst (λ L. Rising L) (sym q) r)))
 
   -- a step of the world: some actions
   pub step_on : (x y : World C) (event : Event C) (v : Moves m x event y) (A B : List (Entry C)) → Agree (length A) A B → Sound m B → Rising B → ((i : ℕ) (s : Raft C) → slice_get y.servers i ≡ Some s → Agree s.commit s.log B) →
-      Actions m (record { log = A; applied = map applied_by x.servers }) (record { log = B; applied = map applied_by y.servers })
+      Actions m (record { log = A; last_applied = map last_applied_by x.servers }) (record { log = B; last_applied = map last_applied_by y.servers })
   step_on x y event v A B a s r agrees =
       let here : slice_get y.servers v.who ≡ Some v.new = subst (λ l. slice_get l v.who ≡ Some v.new) (sym v.servers) (get_set-same x.servers v.who v.new (get-within x.servers v.who v.old v.here)) in
-      acts_both m _ _ _ (list_on A B (map applied_by x.servers) a s r) (seen_on m x y event v B agrees (agrees v.who v.new here).right)
+      acts_both m _ _ _ (list_on A B (map last_applied_by x.servers) a s r) (seen_on m x y event v B agrees (agrees v.who v.new here).right)
 
 -- ---- a run
 
@@ -168,14 +168,14 @@ module _ {S C : Type 0} (m : Meaning S C) (law : LawfulMachine m) (n : ℕ) (eve
   pub list_sound : Sound m list
   list_sound = subst (λ l. Sound m l) same (chains.list_sound m law n events past w run)
 
-first_applied : (C : Type 0) (n : ℕ) → let none : List (Raft C) = replicate n newcomer in map applied_by none ≡ replicate n (Some 0)
+first_applied : (C : Type 0) (n : ℕ) → let none : List (Raft C) = replicate n newcomer in map last_applied_by none ≡ replicate n (Some 0)
 first_applied C zero = refl
 first_applied C (suc n) = ap (λ l. Some 0 ∷ l) (first_applied C n)
 
 -- what a run comes to
 record Comes {S C : Type 0} (m : Meaning S C) (n : ℕ) (past : List (World C)) (w : World C) : Type 0 where
   list : List (Entry C)
-  refines : Refines m n past w (record { log = list; applied = map applied_by w.servers })
+  refines : Refines m n past w (record { log = list; last_applied = map last_applied_by w.servers })
   chain : Chain past w list
 
 module _ {S C : Type 0} (m : Meaning S C) (law : LawfulMachine m) (n : ℕ) where
@@ -202,7 +202,7 @@ module _ {S C : Type 0} (m : Meaning S C) (law : LawfulMachine m) (n : ℕ) wher
       let c = chain m law n [] [] (first n) start in
       record {
         list = [];
-        refines = subst (λ l. Refines m n [] (first n) (record { log = []; applied = l })) (sym (first_applied C n)) (begins begin_shows);
+        refines = subst (λ l. Refines m n [] (first n) (record { log = []; last_applied = l })) (sym (first_applied C n)) (begins begin_shows);
         chain = subst (λ l. Chain [] (first n) l) (first_none (st m law n [] [] (first n) start).list c) c;
       }
   comes events past w (one_more {events = es} {past = before} {w = last} e next r is h) =

@@ -19,7 +19,7 @@ use Rattle.group_safety.proofs.Lists.{get_map}
 use Rattle.group_safety.proofs.Moments.{of_moment}
 use Rattle.spec.specs.Spec.{SpecState, init, Actions}
 use Rattle.group_safety.specs.Deliveries.{deliveries, token_in}
-use Rattle.spec.specs.Refinement.{applied_by, started_by, Refines, begins, moves, Shows, RefinesSpec}
+use Rattle.spec.specs.Refinement.{last_applied_by, started_by, Refines, begins, moves, Shows, RefinesSpec}
 use Rattle.raft_safety.proofs.Reach.{far, far_bound, reach, reach_agree, then_bound, then_reached}
 use Rattle.raft_safety.proofs.Logs.{agree_none}
 use Rattle.spec.proofs.Born.{take_one}
@@ -28,7 +28,7 @@ use Rattle.spec.proofs.Steps.{state, stepped, shown, long, done, matched, counte
 
 -- ---- the first world
 
-first_servers : (n : ℕ) → map applied_by (replicate n servers.newcomer) ≡ replicate n (Some 0)
+first_servers : (n : ℕ) → map last_applied_by (replicate n servers.newcomer) ≡ replicate n (Some 0)
 first_servers zero = refl
 first_servers (suc n) = ap (λ l. Some 0 ∷ l) (first_servers n)
 
@@ -93,7 +93,7 @@ module _ (n : ℕ) (nodes : List NodeSpec) (events : List Event) (past : List Wo
       (λ j. record {
         log = ap (λ k. take k L) (none_long x at) j;
         committed = none_done x at j;
-        applied = (ap (λ (v : World). map applied_by v.servers) same ∙ first_servers n) j;
+        last_applied = (ap (λ (v : World). map last_applied_by v.servers) same ∙ first_servers n) j;
         started = (ap (λ (v : World). map started_by v.clients) same ∙ first_clients 1 nodes) j;
         outstanding = λ term eval. (ap (λ (v : World). token_in v.servers term eval) same ∙ first_out n term eval) j;
         delivered = ap (λ (v : World). deliveries v.sent) same j;

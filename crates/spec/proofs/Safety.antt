@@ -25,7 +25,7 @@ use Rattle.spec.specs.Safety as safety
 -- the same in the specification's own words
 record Holds (n c : ℕ) (g : SpecState) : Type 0 where
   within : g.committed ≤ length g.log
-  applied : (i k : ℕ) → slice_get g.applied i ≡ Some (Some k) → k ≤ g.committed
+  only_committed : (i k : ℕ) → slice_get g.last_applied i ≡ Some (Some k) → k ≤ g.committed
   terms : (p : ℕ) (d e : Entry Command) → slice_get g.log p ≡ Some d → slice_get g.log (suc p) ≡ Some e → d.term ≤ e.term
   safe : (k : ℕ) → Safe (state_of (take k g.log))
   backed : (p : ℕ) (e : Entry Command) (plan : AcceptedPlan) → slice_get g.log p ≡ Some e → e.command ≡ commands.Plan plan → WasOutstanding n c g p e.term plan
@@ -56,7 +56,7 @@ module _ (n c : ℕ) where
   begin : Holds n c (init n c)
   begin = record {
     within = omega arith;
-    applied = λ i k h. let q = none_at n (Some 0) (Some k) i h in omega (arith, same_Some 0 k q);
+    only_committed = λ i k h. let q = none_at n (Some 0) (Some k) i h in omega (arith, same_Some 0 k q);
     terms = λ p d e at too. absurd (cc);
     safe = λ k. subst (λ l. Safe (state_of l)) (sym (take_none k)) cluster_lawful.empty_is_safe;
     backed = λ p e plan h is. absurd (cc);
@@ -103,7 +103,7 @@ module _ (n c : ℕ) where
   act : (g h : SpecState) → Actions (init n c) g → Holds n c g → Action g h → Holds n c h
   act g h came was (appends e f) = record {
     within = omega (arith, was.within, push_length g.log e);
-    applied = was.applied;
+    only_committed = was.only_committed;
     terms = λ p d x at too. elim (get-where g.log (e ∷ []) (suc p) x too) [
       | inl q ↦ elim (get-where g.log (e ∷ []) p d at) [ inl r ↦ was.terms p d x r.1 q.1 | inr r ↦ absurd (omega (arith, q.0, r.0)) ]
       | inr q ↦
@@ -128,7 +128,7 @@ module _ (n c : ℕ) where
   }
   act g h came was (commits k rise fits) = record {
     within = fits;
-    applied = λ i j at. omega (arith, rise, was.applied i j at);
+    only_committed = λ i j at. omega (arith, rise, was.only_committed i j at);
     terms = was.terms;
     safe = was.safe;
     backed = λ q e plan at is. later g h (commits k rise fits) refl q e.term plan (was.backed q e plan at is);
@@ -137,9 +137,9 @@ module _ (n c : ℕ) where
   }
   act g h came was (at_server i old new here m) = record {
     within = was.within;
-    applied = λ j k at. elim (get_set-cases g.applied i new j (Some k) at) [
+    only_committed = λ j k at. elim (get_set-cases g.last_applied i new j (Some k) at) [
       | inl q ↦ moved old new m k q.1
-      | inr q ↦ was.applied j k q.1
+      | inr q ↦ was.only_committed j k q.1
     ];
     terms = was.terms;
     safe = was.safe;
@@ -153,7 +153,7 @@ module _ (n c : ℕ) where
     moved old new (restarts b fits) k e = omega (arith, fits, same_Some b k e)
   act g h came was (starts d ids id here new p) = record {
     within = was.within;
-    applied = was.applied;
+    only_committed = was.only_committed;
     terms = was.terms;
     safe = was.safe;
     backed = λ q e plan at is. later g h (starts d ids id here new p) refl q e.term plan (was.backed q e plan at is);
@@ -188,7 +188,7 @@ module _ (n c : ℕ) where
         ]
   act g h came was (delivers eval token k le pending free newest) = record {
     within = was.within;
-    applied = was.applied;
+    only_committed = was.only_committed;
     terms = was.terms;
     safe = was.safe;
     backed = λ q e plan at is. later g h (delivers eval token k le pending free newest) refl q e.term plan (was.backed q e plan at is);
@@ -197,7 +197,7 @@ module _ (n c : ℕ) where
   }
   act g h came was (ends outstanding stays_so) = record {
     within = was.within;
-    applied = was.applied;
+    only_committed = was.only_committed;
     terms = was.terms;
     safe = was.safe;
     backed = λ q e plan at is. later g h (ends outstanding stays_so) refl q e.term plan (was.backed q e plan at is);
@@ -212,7 +212,7 @@ module _ (n c : ℕ) where
   pub safe : (g : SpecState) → Actions (init n c) g → safety.IsSafe n c g
   safe g a = let p = holds g a in record {
     within = p.within;
-    applied = p.applied;
+    only_committed = p.only_committed;
     terms = p.terms;
     safe = p.safe;
     backed = λ q term plan at. p.backed q (record { term = term; command = commands.Plan plan }) plan at refl;
@@ -229,16 +229,16 @@ moved_up committed old new (restarts b fits) j k e f = absurd (cc)
 same_up : (l : List (Option ℕ)) (i j k : ℕ) → slice_get l i ≡ Some (Some j) → slice_get l i ≡ Some (Some k) → j ≤ k
 same_up l i j k a b = omega (arith, same_Some j k (same_Some (Some j) (Some k) (sym a ∙ b)))
 
-pub stays_up : (g h : SpecState) → Action g h → (i j k : ℕ) → slice_get g.applied i ≡ Some (Some j) → slice_get h.applied i ≡ Some (Some k) → j ≤ k
-stays_up g h (appends e f) i j k a b = same_up g.applied i j k a b
-stays_up g h (commits m rise fits) i j k a b = same_up g.applied i j k a b
-stays_up g h (at_server d old new here m) i j k a b = elim (get_set-cases g.applied d new i (Some k) b) [
-  | inl q ↦ moved_up g.committed old new m j k (same_Some old (Some j) (sym here ∙ (ap (slice_get g.applied) (sym q.0) ∙ a))) q.1
-  | inr q ↦ same_up g.applied i j k a q.1
+pub stays_up : (g h : SpecState) → Action g h → (i j k : ℕ) → slice_get g.last_applied i ≡ Some (Some j) → slice_get h.last_applied i ≡ Some (Some k) → j ≤ k
+stays_up g h (appends e f) i j k a b = same_up g.last_applied i j k a b
+stays_up g h (commits m rise fits) i j k a b = same_up g.last_applied i j k a b
+stays_up g h (at_server d old new here m) i j k a b = elim (get_set-cases g.last_applied d new i (Some k) b) [
+  | inl q ↦ moved_up g.committed old new m j k (same_Some old (Some j) (sym here ∙ (ap (slice_get g.last_applied) (sym q.0) ∙ a))) q.1
+  | inr q ↦ same_up g.last_applied i j k a q.1
 ]
-stays_up g h (starts c ids id here new p) i j k a b = same_up g.applied i j k a b
-stays_up g h (delivers eval token m le pending free newest) i j k a b = same_up g.applied i j k a b
-stays_up g h (ends outstanding stays_so) i j k a b = same_up g.applied i j k a b
+stays_up g h (starts c ids id here new p) i j k a b = same_up g.last_applied i j k a b
+stays_up g h (delivers eval token m le pending free newest) i j k a b = same_up g.last_applied i j k a b
+stays_up g h (ends outstanding stays_so) i j k a b = same_up g.last_applied i j k a b
 
 -- ---- what is there stays
 

@@ -55,7 +55,7 @@ use Rattle.group_safety.proofs.Placings.{placed}
 use Rattle.group_safety.proofs.WorldSteps as world_steps
 use Rattle.spec.specs.Spec.{SpecState, state_from, state_of, MayFollow, ServerStep, applies, crashes, restarts, IsPlaced, Action, appends, commits, at_server, starts, IsPending, IsNewest, with_token, delivers, ends, Actions, none, more}
 use Rattle.group_safety.specs.Deliveries.{deliveries, token_of_mark, token_of_task, token_at, token_in}
-use Rattle.spec.specs.Refinement.{applied_by, started_by, Shows}
+use Rattle.spec.specs.Refinement.{last_applied_by, started_by, Shows}
 use Rattle.spec.proofs.Logs.{Rising, may_follow}
 use Rattle.raft_safety.proofs.Reach.{far, far_bound, far_within, Newest, grew, just_now, had_all, reach_agree, by_then, then_bound, then_reached, then_rises}
 use Rattle.spec.proofs.Outs.{desk_out, leader_out}
@@ -93,10 +93,10 @@ counted_less s = elim (bool_cases (is_up s.mode)) [ inl e ↦ rw e (omega arith)
 seen : Raft Command → Option ℕ
 seen s = if is_up s.mode then Some s.commit else None
 
-seen_same : (xs : List Server) → map applied_by xs ≡ map seen (map raft_part xs)
+seen_same : (xs : List Server) → map last_applied_by xs ≡ map seen (map raft_part xs)
 unfolding seen
 seen_same [] = refl
-seen_same (x ∷ xs) = ap (λ l. applied_by x ∷ l) (seen_same xs)
+seen_same (x ∷ xs) = ap (λ l. last_applied_by x ∷ l) (seen_same xs)
 
 set_like : (xs : List (Raft Command)) (i : ℕ) (x y : Raft Command) → slice_get xs i ≡ Some x → seen x ≡ seen y → map seen (slice_set xs i y) ≡ map seen xs
 set_like [] i x y h e = absurd (cc)
@@ -119,13 +119,13 @@ module _ (n i : ℕ) (sent : List (Message Command)) (s t : Raft Command) (out :
     ]
   ]
 
-module _ (x y : World) (g : SpecState) (is : g.applied ≡ map applied_by x.servers) (fits : (i : ℕ) (s : Raft Command) → slice_get (raft_of y).servers i ≡ Some s → is_up s.mode ≡ true → s.commit ≤ g.committed) where
+module _ (x y : World) (g : SpecState) (is : g.last_applied ≡ map last_applied_by x.servers) (fits : (i : ℕ) (s : Raft Command) → slice_get (raft_of y).servers i ≡ Some s → is_up s.mode ≡ true → s.commit ≤ g.committed) where
   -- the machine after them
   abbrev pub Served : Type 0
-  Served = Actions g (record g { applied = map applied_by y.servers })
+  Served = Actions g (record g { last_applied = map last_applied_by y.servers })
 
-  same_served : map applied_by y.servers ≡ map applied_by x.servers → Served
-  same_served e = subst (λ l. Actions g (record g { applied = l })) (is ∙ sym e) none
+  same_served : map last_applied_by y.servers ≡ map last_applied_by x.servers → Served
+  same_served e = subst (λ l. Actions g (record g { last_applied = l })) (is ∙ sym e) none
 
   moved_served : (f : raft_worlds.Event Command) → election.Moves cluster_meaning (raft_of x) f (raft_of y) → Served
   moved_served f v =
@@ -133,9 +133,9 @@ module _ (x y : World) (g : SpecState) (is : g.applied ≡ map applied_by x.serv
       elim (turn_seen (length (raft_of x).servers) v.who (raft_of x).sent v.old v.new v.out g.committed v.path (fits v.who v.new here)) [
         | inl e ↦ same_served (seen_same y.servers ∙ (ap (map seen) v.servers ∙ (set_like (raft_of x).servers v.who v.old v.new v.here e ∙ sym (seen_same x.servers))))
         | inr r ↦
-            let at : slice_get g.applied v.who ≡ Some (seen v.old) = ap (λ l. slice_get l v.who) (is ∙ seen_same x.servers) ∙ get_map seen (raft_of x).servers v.who v.old v.here in
-            let q : slice_set g.applied v.who (seen v.new) ≡ map applied_by y.servers = ap (λ l. slice_set l v.who (seen v.new)) (is ∙ seen_same x.servers) ∙ (sym (map_set seen (raft_of x).servers v.who v.new) ∙ (ap (map seen) (sym v.servers) ∙ sym (seen_same y.servers))) in
-            subst (λ l. Actions g (record g { applied = l })) q (acts_one g _ (at_server v.who (seen v.old) (seen v.new) at r))
+            let at : slice_get g.last_applied v.who ≡ Some (seen v.old) = ap (λ l. slice_get l v.who) (is ∙ seen_same x.servers) ∙ get_map seen (raft_of x).servers v.who v.old v.here in
+            let q : slice_set g.last_applied v.who (seen v.new) ≡ map last_applied_by y.servers = ap (λ l. slice_set l v.who (seen v.new)) (is ∙ seen_same x.servers) ∙ (sym (map_set seen (raft_of x).servers v.who v.new) ∙ (ap (map seen) (sym v.servers) ∙ sym (seen_same y.servers))) in
+            subst (λ l. Actions g (record g { last_applied = l })) q (acts_one g _ (at_server v.who (seen v.old) (seen v.new) at r))
       ]
 
   by_event : (o : Option (raft_worlds.Event Command)) → LogEventFits o → world_steps.Moves x y o → Served
@@ -196,7 +196,7 @@ module _ (x y : World) (g : SpecState) (is : g.started ≡ map started_by x.clie
 abbrev key_id : Key → EvalId
 key_id key = key.id
 
-same_itself : (id : EvalId) → same_eval id id ≡ true
+pub same_itself : (id : EvalId) → same_eval id id ≡ true
 same_itself id = and_from (nat_eq id.index id.index) (nat_eq id.slot id.slot) (eq-eqb id.index id.index refl) (eq-eqb id.slot id.slot refl)
 
 pub same_ids : (a b : EvalId) → same_eval a b ≡ true → a ≡ b
@@ -227,7 +227,7 @@ module _ (n : ℕ) (nodes : List NodeSpec) (events : List Event) (past : List Wo
   state k x = record {
     log = take (long k) L;
     committed = done k;
-    applied = map applied_by x.servers;
+    last_applied = map last_applied_by x.servers;
     started = map started_by x.clients;
     outstanding = token_in x.servers;
     delivered = deliveries x.sent;
@@ -315,7 +315,7 @@ module _ (n : ℕ) (nodes : List NodeSpec) (events : List Event) (past : List Wo
           subst (λ l. Actions (state k x) (record (state k x) { log = l })) grown (acts_one _ _ (appends e.0 follows))
 
     -- what clients have started is placed
-    all_placed : (c : ℕ) (a : Agent) (j : ℕ) (id : AllocId) → slice_get y.clients c ≡ Some a → slice_get a.started j ≡ Some id → IsPlaced (record { log = take (long (suc k)) L; committed = done (suc k); applied = map applied_by y.servers; started = map started_by x.clients; outstanding = token_in x.servers; delivered = deliveries x.sent }) (suc c) id
+    all_placed : (c : ℕ) (a : Agent) (j : ℕ) (id : AllocId) → slice_get y.clients c ≡ Some a → slice_get a.started j ≡ Some id → IsPlaced (record { log = take (long (suc k)) L; committed = done (suc k); last_applied = map last_applied_by y.servers; started = map started_by x.clients; outstanding = token_in x.servers; delivered = deliveries x.sent }) (suc c) id
     unfolding done
     all_placed c a j id here there =
         let found = placed n nodes events past w run L one (suc k) (suc c) a j id (record { world = y; world_is = next; here = here }) there in
@@ -431,7 +431,7 @@ module _ (n : ℕ) (nodes : List NodeSpec) (events : List Event) (past : List Wo
         let g : SpecState = record g1 { committed = done (suc k) } in
         let committed : Actions g1 g = acts_one _ _ (commits (done (suc k)) rise le) in
         let servers_go = served x y g refl (λ i s here up. done_bound (suc k) y next i s here up) e fit h in
-        let g2 : SpecState = record g { applied = map applied_by y.servers } in
+        let g2 : SpecState = record g { last_applied = map last_applied_by y.servers } in
         let clients_go = clients_on x y g2 refl all_placed (event_clients x y e h) in
         let g3 : SpecState = record g2 { started = map started_by y.clients } in
         let last : Actions g3 (state (suc k) y) = deliver_on made g3 refl refl refl refl (event_delivers n nodes events past w run L one k x y at next e h) in

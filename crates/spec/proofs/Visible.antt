@@ -20,7 +20,7 @@ use Rattle.raft_safety.proofs.Chains.{chain_one}
 use Rattle.spec.specs.Spec.{SpecState, init, state_of, Actions, none}
 use Rattle.spec.specs.Visible as showing
 use Rattle.spec.specs.Visible.{Visible, Behavior, visible_of}
-use Rattle.spec.specs.Refinement.{applied_by, state_shown, visible_in, Refines, begins, moves, Shows, ShowsSpec}
+use Rattle.spec.specs.Refinement.{last_applied_by, state_shown, visible_in, Refines, begins, moves, Shows, ShowsSpec}
 use Rattle.spec.proofs.Steps.{then_on, state_same}
 use Rattle.spec.proofs.Safety.{safe}
 use Rattle.spec.proofs.Runs.{every_run}
@@ -31,13 +31,13 @@ refined_acts n nodes past w g (begins s) = none
 refined_acts n nodes past w g (moves {past = ws} {w = v} {g = old} next h r a s) = then_on _ old h (refined_acts n nodes ws v old r) a
 
 -- what a world shows is what the state shows
-one_state : (L : List (Entry Command)) (s : Server) → Agree s.raft.commit s.raft.log L → option_map (λ j. state_of (take j L)) (applied_by s) ≡ state_shown s
+one_state : (L : List (Entry Command)) (s : Server) → Agree s.raft.commit s.raft.log L → option_map (λ j. state_of (take j L)) (last_applied_by s) ≡ state_shown s
 one_state L s a = elim (bool_cases (is_up s.raft.mode)) [
   | inl b ↦ rw b (ap Some (state_same no_rows (take s.raft.commit L) ∙ ap (λ l. state_after cluster_meaning l) (sym a.same)))
   | inr b ↦ rw b refl
 ]
 
-all_states : (L : List (Entry Command)) (ss : List Server) → ((i : ℕ) (s : Server) → slice_get ss i ≡ Some s → Agree s.raft.commit s.raft.log L) → map (option_map (λ j. state_of (take j L))) (map applied_by ss) ≡ map state_shown ss
+all_states : (L : List (Entry Command)) (ss : List Server) → ((i : ℕ) (s : Server) → slice_get ss i ≡ Some s → Agree s.raft.commit s.raft.log L) → map (option_map (λ j. state_of (take j L))) (map last_applied_by ss) ≡ map state_shown ss
 all_states L [] h = refl
 all_states L (s ∷ ss) h = (λ j. one_state L s (h 0 s refl) j ∷ all_states L ss (λ i x at. h (suc i) x at) j)
 

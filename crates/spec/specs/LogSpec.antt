@@ -12,11 +12,11 @@ use Rattle.spec.specs.Spec.{ServerStep}
 -- the log, and how many of its first entries each server has applied; none while it is down
 pub record LogState (C : Type 0) : Type 0 where
   pub log : List (Entry C)
-  pub applied : List (Option ℕ)
+  pub last_applied : List (Option ℕ)
 
--- n servers, before anything
+-- so many servers, before anything
 abbrev pub init : {C : Type 0} → ℕ → LogState C
-init n = record { log = []; applied = replicate n (Some 0) }
+init servers = record { log = []; last_applied = replicate servers (Some 0) }
 
 module _ {S C : Type 0} (m : Meaning S C) where
   -- what may be appended: an entry of the last term or a later one, whose command is within its
@@ -24,14 +24,15 @@ module _ {S C : Type 0} (m : Meaning S C) where
   pub record MayFollow (log : List (Entry C)) (e : Entry C) : Type 0 where
     pub term : last_term log ≤ e.term
     pub command : IsCommandOf m e.command
+    -- `admission` is why a command is refused: none, so it is admitted
     pub admitted : m.admission (state_after m log) e.command ≡ None
 
   -- one action
   pub data Action (g : LogState C) : LogState C → Type 0 where
     appends : (e : Entry C) → MayFollow g.log e → Action g (record g { log = g.log ++ e ∷ [] })
     at_server : (i : ℕ) (old new : Option ℕ) →
-        slice_get g.applied i ≡ Some old → ServerStep (length g.log) old new →
-        Action g (record g { applied = slice_set g.applied i new })
+        slice_get g.last_applied i ≡ Some old → ServerStep (length g.log) old new →
+        Action g (record g { last_applied = slice_set g.last_applied i new })
 
   -- any number of actions, one after the other
   pub data Actions (g : LogState C) : LogState C → Type 0 where
@@ -40,12 +41,12 @@ module _ {S C : Type 0} (m : Meaning S C) where
 
 -- ---- what a world shows of it
 
-abbrev pub applied_by : {C : Type 0} → Raft C → Option ℕ
-applied_by s = if is_up s.mode then Some s.commit else None
+abbrev pub last_applied_by : {C : Type 0} → Raft C → Option ℕ
+last_applied_by s = if is_up s.mode then Some s.commit else None
 
 -- the same servers are up, and each has applied just so many first entries of the log
 pub record Shows {C : Type 0} (w : World C) (g : LogState C) : Type 0 where
-  pub servers : map applied_by w.servers ≡ g.applied
+  pub servers : map last_applied_by w.servers ≡ g.last_applied
   pub entries : (i : ℕ) (s : Raft C) → slice_get w.servers i ≡ Some s → Agree s.commit s.log g.log
 
 -- The worlds of a run, one by one, are shown by states of the specification: the first world by its

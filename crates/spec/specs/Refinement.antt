@@ -16,8 +16,8 @@ use Rattle.spec.specs.Spec.{SpecState, init, Actions}
 use Rattle.spec.specs.Visible.{Visible, Behavior}
 
 -- how many entries a server has applied
-abbrev pub applied_by : Server → Option ℕ
-applied_by s = if is_up s.raft.mode then Some s.raft.commit else None
+abbrev pub last_applied_by : Server → Option ℕ
+last_applied_by s = if is_up s.raft.mode then Some s.raft.commit else None
 
 abbrev pub started_by : Agent → List AllocId
 started_by x = x.started
@@ -26,7 +26,7 @@ started_by x = x.started
 -- the log's; what each client ever started; what is outstanding at the desks of leaders; and what
 -- was delivered.
 pub record Shows (w : World) (g : SpecState) : Type 0 where
-  pub servers : map applied_by w.servers ≡ g.applied
+  pub servers : map last_applied_by w.servers ≡ g.last_applied
   pub entries : (i : ℕ) (s : Server) →
       slice_get w.servers i ≡ Some s → Agree s.raft.commit s.raft.log g.log
   pub clients : map started_by w.clients ≡ g.started

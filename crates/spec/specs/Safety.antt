@@ -1,6 +1,6 @@
 -- What holds of the specification alone, whatever it does. These claims use none of the conditions
 -- under which it acts, so that each is a check of them.
-use Rattle.std.specs.Prelude.{◌≡◌, ℕ, suc, ◌-◌, ◌<◌, ◌≤◌, true, Some, List, length, take, slice_get}
+use Rattle.std.specs.Prelude.{◌≡◌, ◌≢◌, ℕ, suc, ◌-◌, ◌<◌, ◌≤◌, true, Some, List, length, take, slice_get}
 use Rattle.rows.specs.declared.evaluation.EvalId.{EvalId}
 use Rattle.rows.specs.declared.evaluation.Evaluation.{Evaluation}
 use Rattle.rows.specs.declared.token.Token.{Token}
@@ -23,10 +23,10 @@ IsPlanAt log p term plan =
 
 -- on the way to g the plan was appended as entry p, and just before its evaluation was outstanding
 -- under its token
-pub record WasOutstanding (n c : ℕ) (g : SpecState) (p term : ℕ) (plan : AcceptedPlan) : Type 0 where
+pub record WasOutstanding (servers clients : ℕ) (g : SpecState) (p term : ℕ) (plan : AcceptedPlan) : Type 0 where
   pub then : SpecState
   pub next : SpecState
-  pub before : Actions (init n c) then
+  pub before : Actions (init servers clients) then
   pub append : Action then next
   pub after : Actions next g
   pub had : then.log ≡ take p g.log
@@ -43,10 +43,10 @@ pub record IsAllocated (g : SpecState) (node : ℕ) (id : AllocId) : Type 0 wher
   pub place_is : slice_get plan.places id.slot ≡ Some place
   pub on : place.node ≡ node
 
-pub record IsSafe (n c : ℕ) (g : SpecState) : Type 0 where
+pub record IsSafe (servers clients : ℕ) (g : SpecState) : Type 0 where
   -- what is committed is there, and what a server has applied is committed
   pub within : g.committed ≤ length g.log
-  pub applied : (i k : ℕ) → slice_get g.applied i ≡ Some (Some k) → k ≤ g.committed
+  pub only_committed : (i k : ℕ) → slice_get g.last_applied i ≡ Some (Some k) → k ≤ g.committed
   -- terms never fall
   pub terms : (p : ℕ) (d e : Entry Command) →
       slice_get g.log p ≡ Some d → slice_get g.log (suc p) ≡ Some e → d.term ≤ e.term
@@ -54,7 +54,7 @@ pub record IsSafe (n c : ℕ) (g : SpecState) : Type 0 where
   pub safe : (k : ℕ) → Safe (state_of (take k g.log))
   -- each plan was appended under an outstanding token
   pub backed : (p term : ℕ) (plan : AcceptedPlan) →
-      IsPlanAt g.log p term plan → WasOutstanding n c g p term plan
+      IsPlanAt g.log p term plan → WasOutstanding servers clients g p term plan
   -- what a client ever started is placed on its node, and it started it once
   pub placed : (k : ℕ) (ids : List AllocId) (j : ℕ) (id : AllocId) →
       slice_get g.started k ≡ Some ids → slice_get ids j ≡ Some id → IsAllocated g (suc k) id
@@ -64,7 +64,9 @@ pub record IsSafe (n c : ℕ) (g : SpecState) : Type 0 where
 
 -- of each state to which it comes
 abbrev pub SpecIsSafe : Type 0
-SpecIsSafe = (n c : ℕ) (g : SpecState) → Actions (init n c) g → IsSafe n c g
+SpecIsSafe =
+    (servers clients : ℕ) (g : SpecState) →
+    Actions (init servers clients) g → IsSafe servers clients g
 
 -- ---- from one state to a later one
 
@@ -87,7 +89,7 @@ NothingIsLost = (g h : SpecState) → Actions g h → Stays g h
 abbrev pub AppliedGrows : Type 0
 AppliedGrows =
     (g h : SpecState) → Action g h → (i j k : ℕ) →
-    slice_get g.applied i ≡ Some (Some j) → slice_get h.applied i ≡ Some (Some k) → j ≤ k
+    slice_get g.last_applied i ≡ Some (Some j) → slice_get h.last_applied i ≡ Some (Some k) → j ≤ k
 
 -- ---- tokens are fencing tokens
 
@@ -111,9 +113,13 @@ pub record IsFenced (g : SpecState) : Type 0 where
       one.1.term ≡ two.1.term → one.1.serial < two.1.serial
   pub pending : (j : ℕ) (pair : EvalId × Token) →
       slice_get g.delivered j ≡ Some pair → WasPending g pair.0
-  -- what is outstanding in a term is so under a token of that term, which was delivered for it
+  -- what is outstanding in a term is so under a token of that term, which was delivered for it,
+  -- and after which no other of that term was
   pub outstanding : (term : ℕ) (eval : EvalId) (token : Token) →
       g.outstanding term eval ≡ Some token → (token.term ≡ term) × WasDelivered g eval token
+  pub last : (term : ℕ) (eval : EvalId) (token other : Token) →
+      g.outstanding term eval ≡ Some token → WasDelivered g eval other → other.term ≡ term →
+      other.serial ≤ token.serial
   -- a plan's token is of its entry's term, and was delivered for its evaluation
   pub plans : (p term : ℕ) (plan : AcceptedPlan) →
       IsPlanAt g.log p term plan → (plan.token.term ≡ term) × WasDelivered g plan.eval plan.token
@@ -124,10 +130,29 @@ pub record IsFenced (g : SpecState) : Type 0 where
 
 -- of each state to which it comes
 abbrev pub TokensFence : Type 0
-TokensFence = (n c : ℕ) (g : SpecState) → Actions (init n c) g → IsFenced g
+TokensFence =
+    (servers clients : ℕ) (g : SpecState) → Actions (init servers clients) g → IsFenced g
 
--- while an evaluation is outstanding, no other token takes its token's place
+-- In a term an evaluation is with one worker at a time, from its delivery until that ends; here of
+-- what one action makes of g. In another term it may be with another worker; but once an entry of a
+-- later term is in the log, no plan of the earlier one is appended.
+pub record HasOneHolder (g h : SpecState) (term : ℕ) (eval : EvalId) : Type 0 where
+  -- what is delivered is outstanding then, under that token
+  pub holds : (j : ℕ) (token : Token) → token.term ≡ term →
+      slice_get h.delivered j ≡ Some (eval, token) → slice_get g.delivered j ≢ Some (eval, token) →
+      h.outstanding term eval ≡ Some token
+  -- while it is outstanding, it is not delivered in that term
+  pub not_again : (j : ℕ) (one two : Token) →
+      g.outstanding term eval ≡ Some one → two.term ≡ term →
+      slice_get h.delivered j ≡ Some (eval, two) → slice_get g.delivered j ≡ Some (eval, two)
+  -- while it is outstanding, no other token takes its token's place
+  pub same : (one two : Token) →
+      g.outstanding term eval ≡ Some one → h.outstanding term eval ≡ Some two → one ≡ two
+  -- a delivery that has ended never comes back
+  pub ended : (token : Token) → WasDelivered g eval token →
+      h.outstanding term eval ≡ Some token → g.outstanding term eval ≡ Some token
+
+-- of each action
 abbrev pub OneHolder : Type 0
 OneHolder =
-    (g h : SpecState) → Action g h → (term : ℕ) (eval : EvalId) (one two : Token) →
-    g.outstanding term eval ≡ Some one → h.outstanding term eval ≡ Some two → one ≡ two
+    (g h : SpecState) → Action g h → (term : ℕ) (eval : EvalId) → HasOneHolder g h term eval

@@ -1,7 +1,15 @@
--- The specification: the whole group as one state machine that never fails. Its state is one log,
--- how far that is committed, what each server has applied of it, what each client ever started, and
--- which evaluations were delivered to workers. It knows no message, no election and no byte. A term
--- is the number of a leader; an entry is a command with the term in which it was appended.
+-- The specification: the whole group as one state machine. Its state is one log, how far that is
+-- committed, what each server has applied of it, what each client ever started, and which
+-- evaluations were delivered to workers. It knows no message, no election and no byte. A term is
+-- the number of a leader; an entry is a command with the term in which it was appended; a token is
+-- the term of the leader who delivers under it, and that leader's serial number.
+--
+-- It never fails: nothing is ever taken from its log, its starts or its deliveries. A crash is one
+-- of its actions, and takes the state of one server alone, until that restarts.
+--
+-- The log is no single server's. It is the one list of a whole run, chosen in hindsight: the
+-- entries that the run commits in the end. What some leader appended and another overwrote never
+-- was in it.
 use Rattle.std.specs.Prelude.{◌≡◌, ◌≢◌, ℕ, suc, ◌-◌, ◌<◌, ◌≤◌, nat_eq, true, ◌&&◌, if◌then◌else◌, Option, Some, None, List, [], ◌∷◌, ◌++◌, length, take, replicate, slice_get, slice_set}
 use Rattle.rows.specs.declared.evaluation.EvalId.{EvalId}
 use Rattle.rows.specs.declared.evaluation.Evaluation.{Evaluation}
@@ -17,27 +25,28 @@ use Rattle.cluster_model.specs.Words.{State, no_rows, same_eval, is_pending}
 use Rattle.cluster_model.specs.Effect.{applied}
 use Rattle.cluster_model.specs.Admission.{admission}
 
--- Servers stand at their numbers from 0, the client of node k at place k - 1.
+-- Servers stand at their numbers from 0, the client of node m at place m - 1.
 pub record SpecState : Type 0 where
   pub log : List (Entry Command)
   -- how many of its first entries are committed
   pub committed : ℕ
   -- how many each server has applied; none while it is down
-  pub applied : List (Option ℕ)
+  pub last_applied : List (Option ℕ)
   -- the allocations that each client ever started
   pub started : List (List AllocId)
-  -- in a term: the token under which an evaluation is outstanding, that is, with a worker
+  -- in a term: the token under which an evaluation is outstanding, that is, with a worker. It may
+  -- be so in two terms at once: an old leader may not know yet that there is a newer one
   pub outstanding : ℕ → EvalId → Option Token
   -- the evaluations that were ever delivered to workers, each with its token
   pub delivered : List (EvalId × Token)
 
--- n servers and k clients, before anything
+-- so many servers and clients, before anything
 abbrev pub init : ℕ → ℕ → SpecState
-init n k = record {
+init servers clients = record {
   log = [];
   committed = 0;
-  applied = replicate n (Some 0);
-  started = replicate k [];
+  last_applied = replicate servers (Some 0);
+  started = replicate clients [];
   outstanding = λ term eval. None;
   delivered = [];
 }
@@ -54,7 +63,9 @@ state_of entries = state_from no_rows entries
 -- log admits; a plan under the token under which its evaluation is outstanding in that term.
 pub record MayFollow (g : SpecState) (e : Entry Command) : Type 0 where
   pub term : last_term g.log ≤ e.term
+  -- `admission` is why a command is refused: none, so it is admitted
   pub admitted : admission (state_of g.log) e.command ≡ None
+  -- no other command needs a token
   pub token : (plan : AcceptedPlan) →
       e.command ≡ commands.Plan plan → g.outstanding e.term plan.eval ≡ Some plan.token
 
@@ -104,15 +115,15 @@ pub data Action (g : SpecState) : SpecState → Type 0 where
   commits : (k : ℕ) → g.committed ≤ k → k ≤ length g.log → Action g (record g { committed = k })
   -- a server applies, crashes or restarts
   at_server : (i : ℕ) (old new : Option ℕ) →
-      slice_get g.applied i ≡ Some old → ServerStep g.committed old new →
-      Action g (record g { applied = slice_set g.applied i new })
+      slice_get g.last_applied i ≡ Some old → ServerStep g.committed old new →
+      Action g (record g { last_applied = slice_set g.last_applied i new })
   -- a client starts an allocation that is placed on its node and that it never started
-  starts : (c : ℕ) (ids : List AllocId) (id : AllocId) →
-      slice_get g.started c ≡ Some ids → ((j : ℕ) → slice_get ids j ≢ Some id) →
-      IsPlaced g (suc c) id →
-      Action g (record g { started = slice_set g.started c (ids ++ id ∷ []) })
+  starts : (client : ℕ) (ids : List AllocId) (id : AllocId) →
+      slice_get g.started client ≡ Some ids → ((j : ℕ) → slice_get ids j ≢ Some id) →
+      IsPlaced g (suc client) id →
+      Action g (record g { started = slice_set g.started client (ids ++ id ∷ []) })
   -- a leader delivers to a worker an evaluation that is pending after some committed entries and
-  -- is not outstanding, under a new token of its term
+  -- is not outstanding in the leader's term, under a new token of that term
   delivers : (eval : EvalId) (token : Token) (k : ℕ) →
       k ≤ g.committed → IsPending (state_of (take k g.log)) eval →
       g.outstanding token.term eval ≡ None → IsNewest g token →
@@ -121,7 +132,7 @@ pub data Action (g : SpecState) : SpecState → Type 0 where
         delivered = g.delivered ++ (eval, token) ∷ [];
       })
   -- evaluations are outstanding no more: they are acked, nacked or pending no more, their time is
-  -- up, or their leader steps down
+  -- up, or their leader steps down. It may be any of them, at any time
   ends : (outstanding : ℕ → EvalId → Option Token) →
       ((term : ℕ) (eval : EvalId) (token : Token) →
       outstanding term eval ≡ Some token → g.outstanding term eval ≡ Some token) →

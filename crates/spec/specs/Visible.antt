@@ -15,14 +15,16 @@ pub record Visible : Type 0 where
 
 abbrev pub visible_of : SpecState → Visible
 visible_of g = record {
-  states = map (option_map (λ k. state_of (take k g.log))) g.applied;
+  states = map (option_map (λ k. state_of (take k g.log))) g.last_applied;
   started = g.started;
   delivered = g.delivered;
 }
 
--- What n servers and c clients show at each moment is what states of the specification show, which
--- go on by its actions; the last state is g.
-pub data Behavior (n c : ℕ) : List Visible → SpecState → Type 0 where
-  begins : Behavior n c (visible_of (init n c) ∷ []) (init n c)
+-- What servers and clients show at each moment is what states of the specification show, which go
+-- on by its actions; the last state is g. Between two moments lie any number of actions, of which
+-- nothing is seen: a server may have crashed there and restarted, with less than it had applied.
+pub data Behavior (servers clients : ℕ) : List Visible → SpecState → Type 0 where
+  begins : Behavior servers clients (visible_of (init servers clients) ∷ []) (init servers clients)
   goes : {shown : List Visible} {g h : SpecState} →
-      Behavior n c shown g → Actions g h → Behavior n c (shown ++ visible_of h ∷ []) h
+      Behavior servers clients shown g → Actions g h →
+      Behavior servers clients (shown ++ visible_of h ∷ []) h

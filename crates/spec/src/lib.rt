@@ -39,8 +39,11 @@ pub fn the_spec_is_safe()
 /// evaluation broker; Kleppmann, "Designing Data-Intensive Applications", 2017, chapter 8.)
 /// - `fences`: a plan is appended only under a token that was delivered for its evaluation in its
 ///   own term, and after a plan under a newer one no plan of that evaluation follows in that term
-///   under an older one. Tokens of one term are newer and newer.
-/// - `one_holder`: while an evaluation is outstanding, no other token takes its token's place.
+///   under an older one. Tokens of one term are newer and newer. What is outstanding is so under
+///   the token of its last delivery in that term.
+/// - `one_holder`: in a term an evaluation is with one worker at a time. Once delivered, it is
+///   outstanding under that token. While it is outstanding, it is not delivered again, and no other
+///   token takes its token's place. A delivery that has ended never comes back.
 pub fn tokens_fence()
     ensures fences { TokensFence }
     ensures one_holder { OneHolder }
