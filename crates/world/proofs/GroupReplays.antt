@@ -38,7 +38,7 @@ works_more (x ∷ xs) [] w e same = absurd (omega arith)
 works_more (x ∷ xs) (f ∷ fs) w e same = ap (λ l. work_of x f ++ l) (works_more xs fs w e (omega arith)) ∙ sym (append_assoc (work_of x f) (works xs fs) (work_of w e))
 
 -- a run has as many worlds before the last one as events
-run_length : (n : ℕ) (nodes : List NodeSpec) (events : List Event) (past : List World) (w : World) → LimitedRun n nodes events past w → length past ≡ length events
+pub run_length : (n : ℕ) (nodes : List NodeSpec) (events : List Event) (past : List World) (w : World) → LimitedRun n nodes events past w → length past ≡ length events
 run_length n nodes events past w start = refl
 run_length n nodes events past w (more {events = es} {past = before} {w = last} e next run fits so) =
     omega (arith, run_length n nodes es before last run, length-append before (last ∷ []), length-append es (e ∷ []))

@@ -147,6 +147,7 @@ impl<M: Machine> RaftWorld<M> {
         ensures log_matching { LogsMatchEver M.meaning self.new }
         ensures one_list { OneListEver M.meaning self.new }
         ensures safe_states { StatesSafeEver M.meaning self.new }
+        ensures recovers { RecoversEver M.meaning self.new }
         ensures size { IsGroup (length self.new.servers) }
         // What stood under a ticket stood there.
         ensures stood { (index term : ℕ) (command : M.Command) →
@@ -159,6 +160,7 @@ impl<M: Machine> RaftWorld<M> {
         self.log_matching();
         self.one_list();
         self.safe_states();
+        self.recovers();
         done
     }
 
@@ -196,6 +198,7 @@ impl<M: Machine> RaftWorld<M> {
         ensures log_matching { IfOk result (λ w. LogsMatchEver M.meaning w) }
         ensures one_list { IfOk result (λ w. OneListEver M.meaning w) }
         ensures safe_states { IfOk result (λ w. StatesSafeEver M.meaning w) }
+        ensures recovers { IfOk result (λ w. RecoversEver M.meaning w) }
         ensures size { IfOk result (λ w. IsGroup (length w.servers)) }
     {
         let mut world = Self::new(alloc, n)?;
@@ -210,6 +213,7 @@ impl<M: Machine> RaftWorld<M> {
         world.log_matching();
         world.one_list();
         world.safe_states();
+        world.recovers();
         Ok(world)
     }
 

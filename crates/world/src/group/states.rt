@@ -8,6 +8,7 @@ ghost use Rattle.raft_core.specs.declared.ticket.Standing.TheVariants as standin
 ghost use Rattle.world.specs.Claims.{OneHistory};
 ghost use Rattle.world.specs.GroupView.{GroupRunsTo};
 ghost use Rattle.world.specs.GroupClaims.{state_of};
+ghost use Rattle.world.specs.GroupShown.{OfTheLast, seen_state};
 ghost use Rattle.world.specs.Tickets.{standing_in};
 ghost use Rattle.world.specs.GroupTickets.{SettledInGroup};
 
@@ -25,6 +26,8 @@ impl World {
         ensures value { (past : List worlds.World) (w : worlds.World) →
             GroupRunsTo self.now past w → option_copied result ≡ state_of w server }
         ensures safe { IfSome result (λ state. Safe state.now) }
+        // It is what is shown last.
+        ensures shown { OfTheLast self.now (λ now. option_copied result ≡ seen_state now server) }
     {
         self.one_list();
         self.safe_states();

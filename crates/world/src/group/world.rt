@@ -1,5 +1,5 @@
 //! A group of servers and clients in one value.
-ghost use Rattle.std.specs.Prelude.{◌≡◌, ◌≢◌, ℕ, ◌+◌, ◌<◌, ◌≤◌, suc, true, false, Some, None, Err, length, replicate, slice_get, [], IfOk, OnErr, IfErr, IfSome, IfNone, MatchBool, List};
+ghost use Rattle.std.specs.Prelude.{◌≡◌, ◌≢◌, ℕ, ◌+◌, ◌<◌, ◌≤◌, suc, true, false, Some, None, Err, length, replicate, slice_get, [], IfOk, OnErr, IfErr, IfSome, IfNone, MatchBool, List, ◌∷◌, map};
 ghost use Rattle.std.specs.Option.{option_copied};
 ghost use Rattle.std.specs.List.{AllZip, AllByRecursion};
 ghost use Rattle.rows.specs.declared.refusal.Refusal.TheVariants as refusals;
@@ -20,7 +20,7 @@ ghost use Rattle.world.specs.GroupView.{GroupRunsTo, client_view, nodes_of, Serv
 ghost use Rattle.world.specs.GroupSteps.{IsGroupDone, SameView, RefusesGroupEvent, IsGroupAwake, IsNewGroup, WhyNoGroup, GroupPlayed, GroupReplays};
 ghost use Rattle.world.specs.GroupClaims.{OneGroupList, SafeGroupStates, BackedPlans, PlacedStarts, GroupHeadline, GroupRecoversEver, IsGreatestEver, IsTraced};
 ghost use Rattle.spec.specs.Visible.{Visible};
-ghost use Rattle.world.specs.GroupShown.{HasShown, ShownBySpec};
+ghost use Rattle.world.specs.GroupShown.{HasShown, ShownSoFar, ShownAfter, OfTheLast, started_in, CarryDeliveries, ShownBySpec};
 ghost use Rattle.world.specs.Inner.GroupInputs.{new_agents};
 ghost use Rattle.world.specs.Inner.GroupParts.{GroupStepped};
 
@@ -324,6 +324,10 @@ impl World {
         ensures starts_placed { PlacedStarts self.new }
         // All four at once.
         ensures headline { GroupHeadline self.new }
+        ensures recovers { GroupRecoversEver self.new }
+        // What it has shown goes on by what is seen now.
+        ensures shown { (shown : List Visible) → HasShown self.old shown →
+            ShownAfter result self.new shown }
         ensures size { IsGroup (length self.new.servers) }
     {
         let done = self.take(event);
@@ -333,6 +337,7 @@ impl World {
         self.plans_backed();
         self.starts_placed();
         self.headline();
+        self.recovers();
         done
     }
 
@@ -348,6 +353,8 @@ impl World {
         // Want of memory is not answered where there is no such group.
         ensures memory { IfErr result (λ refusal. refusal ≡ refusals.NoMemory →
             IsGroup n × (length nodes.now ≤ 64)) }
+        // It has shown one moment.
+        ensures shown { IfOk result (λ w. (now : Visible) × HasShown w (now ∷ [])) }
     {
         if !is_group_size(n) {
             return Err(Refusal::OutOfRange);
@@ -384,6 +391,8 @@ impl World {
         ensures starts_placed { IfOk result (λ w. PlacedStarts w) }
         // All four at once.
         ensures headline { IfOk result (λ w. GroupHeadline w) }
+        ensures recovers { IfOk result (λ w. GroupRecoversEver w) }
+        ensures shown { IfOk result (λ w. ShownSoFar w) }
         ensures size { IfOk result (λ w. IsGroup (length w.servers)) }
     {
         // What is handed in is within its limits, and so is what is proposed for it.
@@ -402,6 +411,8 @@ impl World {
         world.plans_backed();
         world.starts_placed();
         world.headline();
+        world.recovers();
+        world.has_shown();
         Ok(world)
     }
 
@@ -504,9 +515,9 @@ impl World {
     }
 
     /// Whatever the group has shown, moment by moment, is what the specification shows: one state
-    /// machine of two pages (`spec`). A moment is each server's state, what each client ever
-    /// started, and what was ever delivered to workers. (Abadi and Lamport, "The Existence of
-    /// Refinement Mappings", 1991.)
+    /// machine of two pages (`spec`). `new` begins what is shown, `step` goes on with it, and
+    /// `state`, `clients` and `sent` answer what is shown last. (Abadi and Lamport, "The Existence
+    /// of Refinement Mappings", 1991.)
     pub fn shows_the_spec(&self)
         ensures { ShownBySpec self.now }
     {
@@ -515,9 +526,10 @@ impl World {
         every_run_shows_the_spec();
     }
 
-    /// It has shown something so far, moment by moment.
+    /// It has shown something so far: the moment before its first event, and one after each event of
+    /// its trace.
     pub fn has_shown(&self)
-        ensures { (shown : List Visible) × HasShown self.now shown }
+        ensures { ShownSoFar self.now }
     {
         let _ = &self.servers;
     }
@@ -543,7 +555,9 @@ impl World {
 
     /// All frames that were ever sent, in order.
     pub fn sent(&self) -> &Frames
-        ensures { result.now ≡ self.now.outbox.frames }
+        ensures value { result.now ≡ self.now.outbox.frames }
+        // They carry messages, one for one, that delivered what is shown last.
+        ensures shown { OfTheLast self.now (λ now. CarryDeliveries result.now now) }
     {
         self.history.sent()
     }
@@ -568,6 +582,8 @@ impl World {
     pub fn take_work(&mut self) -> Sequence<Work>
         ensures work { result ≡ self.old.outbox.work }
         ensures rest { self.new ≡ record self.old { outbox = record self.old.outbox { work = [] } } }
+        ensures shown { (shown : List Visible) → HasShown self.old shown →
+            HasShown self.new shown }
     {
         self.history.take_work()
     }
@@ -599,6 +615,8 @@ impl World {
     /// The clients in the order of their nodes: the k-th, from 1, is that of node k. At most 64.
     pub fn clients(&self) -> &[Agent]
         ensures clients { result.now ≡ self.now.clients }
+        // What they ever started is what is shown last.
+        ensures shown { OfTheLast self.now (λ now. now.started ≡ map started_in result.now) }
         ensures places { ClientsKnowNumbers self.now }
         ensures nodes { NodesFit (nodes_of self.now) }
     {
