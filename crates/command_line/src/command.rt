@@ -588,30 +588,60 @@ fn complaint(matches: &ArgMatches<'_>) -> &'static str
     }
 }
 
+// The subcommand alone whose words the complaint is of, so that the usage that is shown is its own.
+fn complained<'a>(alloc: Global, matches: &ArgMatches<'_>) -> Result<Command<'a>, Error>
+    ensures { IfErr result (λ e. kind_of e ≡ OutOfMemory) }
+{
+    match matches.subcommand() {
+        Some(("sweep", _)) => under_name(sweep_command(alloc), "nomadsim sweep"),
+        _ => under_name(threads_command(alloc), "nomadsim threads"),
+    }
+}
+
+// The command, whose usage begins with this name.
+fn under_name<'a>(command: Result<Command<'a>, Error>, name: &str) -> Result<Command<'a>, Error>
+    ensures { IfErr command.entry (λ e. kind_of e ≡ OutOfMemory)
+        → IfErr result (λ e. kind_of e ≡ OutOfMemory) }
+{
+    let command = command?.bin_name(name)?;
+    Ok(command)
+}
+
+// What is told of words that ask for no line.
+fn word_error(alloc: Global, matches: &ArgMatches<'_>) -> Result<Error, Error>
+    ensures ok { IfOk result (λ e. kind_of e ≡ ValueValidation) }
+    ensures memory { IfErr result (λ e. kind_of e ≡ OutOfMemory) }
+{
+    let mut command = complained(alloc, matches)?;
+    let error = command.error(ErrorKind::ValueValidation, complaint(matches))?;
+    Ok(error)
+}
+
 // The line that these matches name, or the error that it is none.
-fn line_or_error<'a>(
-    program: &mut Command<'a>,
-    matches: &ArgMatches<'a>,
-) -> Result<CommandLine<'a>, Error>
+fn line_or_error<'a>(alloc: Global, matches: &ArgMatches<'a>) -> Result<CommandLine<'a>, Error>
     ensures ok { IfOk result (IsNamedLine (subcommand_rows_of matches.now)) }
     ensures untaken { IfErr result (λ e. is_taken (subcommand_rows_of matches.now) ≡ false) }
     ensures kind { IfErr result (λ e. (kind_of e ≡ OutOfMemory) ⊎ (kind_of e ≡ ValueValidation)) }
 {
     match line_of(matches) {
         Some(line) => Ok(line),
-        None => Err(program.error(ErrorKind::ValueValidation, complaint(matches))?),
+        None => Err(word_error(alloc, matches)?),
     }
 }
 
 // What the words ask for, by the program's own command.
-fn line_by<'a>(program: &mut Command<'a>, words: &'a [&'a str]) -> Result<CommandLine<'a>, Error>
+fn line_by<'a>(
+    alloc: Global,
+    program: &mut Command<'a>,
+    words: &'a [&'a str],
+) -> Result<CommandLine<'a>, Error>
     ensures named { app_of program.old ≡ nomadsim_app
         → IfOk result (AskFor (map (λ w. w.now) words.entry.now)) }
     ensures faults { app_of program.old ≡ nomadsim_app
         → FailsBy (words_fault (map (λ w. w.now) words.entry.now)) result }
 {
     let matches = program.try_get_matches_from_mut(words)?;
-    line_or_error(program, &matches)
+    line_or_error(alloc, &matches)
 }
 
 /// Reads the words of a command line, of which the first names the program. Words that ask for help
@@ -623,5 +653,5 @@ pub fn command<'a>(alloc: Global, words: &'a [&'a str]) -> Result<CommandLine<'a
     ensures faults { FailsBy (words_fault (map (λ w. w.now) words.entry.now)) result }
 {
     let mut program = program(alloc)?;
-    line_by(&mut program, words)
+    line_by(alloc, &mut program, words)
 }

@@ -43,7 +43,11 @@ A refused step is told by its number and its line:
   6  snapshot too old       13  table full          20  node not draining
   7  job changed            14  exhausted           21  unknown allocation
 
-An actor that finds no memory goes down as in a crash, and the run goes on.";
+An actor that finds no memory goes down as in a crash, and the run goes on.
+
+With --out T the file T is written before the last lines are printed. Where it
+cannot be written, only the lines of refused steps were printed. Where the
+standard output fails, the exit status is 2 and nothing more is said.";
 
 pub(crate) const STEPS: &str = "\
 The file is a JSON object with exactly these keys:
@@ -250,15 +254,20 @@ Example:
 pub(crate) const EXPANDS: &str = "\
 The file is one of 'nomadsim run --help', in whose list of steps there may stand
 also
-    settle      what is left to do is done: the first of these that changes
-                something, and so on until none does, or 1000 times
+    settle      what is left to do is done: the first of these that is of use,
+                and so on until none is, or 1000 times, or until 20 in a row
+                changed nothing, as where messages are lost
                   flow        where messages are in flight
-                  work S      of each server S
-                  plan S      at the leader, the one of the greatest term
-                  beat S      where not all of its log is applied there
-                  take S S
-                  pull C S    of all clients C that run something else than
-                              what the leader's state has for them
+                  work S      of each server S, where what waits for its workers
+                              asks for no later state of S
+                  plan S      at the leader, the one of the greatest term, where
+                              a plan waits
+                  beat S      where not all of its log is applied there, and
+                              more than half of the servers are up, or one that
+                              is up has a shorter log
+                  take S S    where it has an evaluation to give out
+                  pull C S    of all clients C that start, stop or report
+                              something by the leader's list
                   beat S      where others that are up have applied less
                 with a 'flow' behind it where messages are in flight then
     settle N    the same, up to N times, N from 0 to 18446744073709551615

@@ -36,3 +36,9 @@ returns-clause-ok c =
     let k = c.loop.counter in
     let within : k ≤ c.args.most = search rules in
     up_to_more (k * 65) (c.args.most * 65) c.args.self.now c.loop.self (omega (arith, within)) c.loop.invariant
+
+pub returns-then-left-eq0-clause-ok : goal.returns-then-left-eq0-clause-ok
+returns-then-left-eq0-clause-ok c =
+    let k = c.loop.counter in
+    let within : k < c.args.most = search rules in
+    up_to_more (k * 65) (c.args.most * 65) c.args.self.now c.loop.self (omega (arith, within)) c.loop.invariant
