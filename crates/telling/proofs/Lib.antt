@@ -1,3 +1,2 @@
-pub mod Olds
 pub mod Runs
 pub mod Rows

@@ -52,8 +52,11 @@ eval_words row =
 
 -- ---- allocations
 
+-- what may change of it is as it was
 abbrev pub IsOldAlloc : State → Allocation → Type 0
-IsOldAlloc old row = alloc_of row.id old ≡ Some row
+IsOldAlloc old row =
+    MatchOption (alloc_of row.id old) ⊥
+    (λ before. (before.desired ≡ row.desired) × (before.client ≡ row.client) × (before.migrate ≡ row.migrate))
 
 -- that it is to stop, or to move
 abbrev pub wish_words : Desired → Bool → List ℕ

@@ -183,11 +183,16 @@ fn push_new_alloc(words: &mut String, old: &Cluster, row: &Allocation) -> Result
     push_alloc(words, row)
 }
 
+// Whether what may change of an allocation is as it was.
 fn is_old_alloc(old: &Cluster, row: &Allocation) -> bool
     ensures { MatchBool result (IsOldAlloc old.now row.now) (IsOldAlloc old.now row.now → ⊥) }
 {
     match old.alloc(row.id) {
-        Some(before) => *before == *row,
+        Some(before) => {
+            before.desired == row.desired
+                && before.client == row.client
+                && before.migrate == row.migrate
+        }
         None => false,
     }
 }
