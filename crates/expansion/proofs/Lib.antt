@@ -6,3 +6,6 @@ pub mod Pieces
 pub mod Plains
 pub mod Expanded
 pub mod StepLines
+pub mod Leading
+pub mod Tasks
+pub mod Waiting

@@ -1,8 +1,6 @@
 -- Lines that a group takes, one behind the other.
-use Rattle.std.proofs.Common.{◌≡◌, ◌≤◌, ◌∙◌, ◌+◌, ◌++◌, ◌∷◌, ℕ, Bool, true, false, Option, List, [], IfErr, IfOk, OnOk, Result, Ok, Err, String, ap, append_assoc, arith, inl, inr, length, length-append, map, refl, string_bytes, sym, take}
-use Rattle.std.specs.List.{All}
-use Rattle.std.proofs.lemmas.List.{append-nil, length-map, map-append, take-append-le, take-map, take_all}
-use Rattle.std.proofs.lemmas.List.Elements.{All-cons, All-nil}
+use Rattle.std.proofs.Common.{◌≡◌, ◌≤◌, ◌∙◌, ◌+◌, ◌++◌, ◌∷◌, ℕ, Bool, true, false, Option, List, [], IfErr, IfOk, OnOk, Result, Ok, Err, String, ap, append_assoc, arith, inl, inr, length, length-append, map, refl, string_bytes, sym}
+use Rattle.std.proofs.lemmas.List.{append-nil, length-map, map-append}
 use Rattle.std.specs.declared.alloc.Global.{Global}
 use Rattle.rows.specs.declared.node.NodeSpec.{NodeSpec}
 use Rattle.rows.specs.declared.refusal.Refusal.{Refusal}
@@ -16,7 +14,7 @@ use Rattle.playing.proofs.Steps.{one_more_played}
 use Rattle.expansion.specs.declared.expanding.Taken.{Taken}
 use Rattle.expansion.specs.Expanded.{AreTaken}
 use Rattle.expansion.specs.ShortSteps.{Settles, most_lines}
-use Rattle.expansion.specs.Inner.Taking.{StandsAsTaken, TakesBack, TakesIf, TakesMore, TakesUpTo, WhyNoLine, WhyNoMore, WhyNoShort}
+use Rattle.expansion.specs.Inner.Taking.{StandsAsTaken, TakesIf, TakesMore, TakesUpTo, WhyNoLine, WhyNoMore, WhyNoShort}
 
 -- a new group took no line
 pub none_taken : (settings : Settings) (nodes : List NodeSpec) (play : Play) → IsNewPlay settings nodes play → AreTaken settings nodes [] play
@@ -31,10 +29,6 @@ one_more_taken settings nodes lines mid line own new are is found = record {
   played = one_more_played StepTaken StepRefused lines line are.first mid new are.refused own are.played is;
   found = found;
 }
-
-pub all_taken : (settings : Settings) (nodes : List NodeSpec) (lines : List (List ℕ)) (first : Play) (refused : List Refused) (new : Play)
-    → IsNewPlay settings nodes first → LinesPlayed StepTaken StepRefused lines first refused new → new.lacked ≡ false → AreTaken settings nodes lines new
-all_taken settings nodes lines first refused new is played found = record { first = first; new = is; refused = refused; played = played; found = found }
 
 -- ---- what is taken behind what was
 
@@ -59,9 +53,6 @@ some_and_some m n a b c first next =
 pub up_to_more : (m n : ℕ) (a b : Taken) → m ≤ n → TakesUpTo m a b → TakesUpTo n a b
 up_to_more m n a b within some = (some.0, omega (arith, within, some.1), some.2)
 
-pub none_and_some : (n : ℕ) (a b c : Taken) → TakesUpTo 0 a b → TakesUpTo n b c → TakesUpTo n a c
-none_and_some n a b c first next = up_to_more (0 + n) n a c (omega arith) (some_and_some 0 n a b c first next)
-
 -- so many lines there are then at most
 pub reached : (m : ℕ) (a b : Taken) → TakesUpTo m a b → length b.lines.items ≤ length a.lines.items + m
 reached m a b some =
@@ -76,15 +67,6 @@ was_of_use done n a b is some = rw is at some
 pub was_of_none : (done : Bool) (n : ℕ) (a b : Taken) → done ≡ false → TakesIf done n a b → TakesUpTo 0 a b
 was_of_none done n a b is some = rw is at some
 
--- behind what was of no use
-behind_none : (done : Bool) (n : ℕ) (a b c : Taken) → TakesUpTo 0 a b → TakesIf done n b c → TakesIf done n a c
-behind_none true n a b c first next = none_and_some n a b c first next
-behind_none false n a b c first next = none_and_some 0 a b c first next
-
-pub if_behind_none : (r : Result Bool Refusal) (n : ℕ) (a b c : Taken) → TakesUpTo 0 a b → IfOk r (λ done. TakesIf done n b c) → IfOk r (λ done. TakesIf done n a c)
-if_behind_none (Ok done) n a b c first next = behind_none done n a b c first next
-if_behind_none (Err e) n a b c first next = tt
-
 -- ---- why nothing more is taken
 
 pub stops_behind : (m n : ℕ) (a b : Taken) (r : Refusal) → TakesUpTo m a b → WhyNoMore n b r → WhyNoMore (m + n) a r
@@ -95,13 +77,9 @@ pub stops_with_more : (m n : ℕ) (t : Taken) (r : Refusal) → m ≤ n → WhyN
 stops_with_more m n t r within (inl memory) = inl memory
 stops_with_more m n t r within (inr past) = inr (past.0, omega (arith, within, past.1))
 
--- behind what was of no use
-pub stops_behind_none : (n : ℕ) (a b : Taken) (r : Refusal) → TakesUpTo 0 a b → WhyNoMore n b r → WhyNoMore n a r
-stops_behind_none n a b r none why = stops_with_more (0 + n) n a r (omega arith) (stops_behind 0 n a b r none why)
-
-pub if_stops_behind_none : {X : Type 0} (r : Result X Refusal) (n : ℕ) (a b : Taken) → TakesUpTo 0 a b → IfErr r (WhyNoMore n b) → IfErr r (WhyNoMore n a)
-if_stops_behind_none (Ok x) n a b none why = tt
-if_stops_behind_none (Err e) n a b none why = stops_behind_none n a b e none why
+pub if_stops_behind : {X : Type 0} (r : Result X Refusal) (m n most : ℕ) (a b : Taken) → m + n ≤ most → TakesUpTo m a b → IfErr r (WhyNoMore n b) → IfErr r (WhyNoMore most a)
+if_stops_behind (Ok x) m n most a b within some why = tt
+if_stops_behind (Err e) m n most a b within some why = stops_with_more (m + n) most a e within (stops_behind m n a b e some why)
 
 -- of the line of a step
 pub step_stops : (line : List ℕ) (t : Taken) (r : Refusal) → IsStepLine line → WhyNoLine line t r → WhyNoMore 1 t r
@@ -133,32 +111,3 @@ and_so (Err e) h f = tt
 pub line_taken : (t : Taken) (new : Play) (line : List ℕ) (refused : List Refused) (lines : List (String Global)) → StandsAsTaken t → LinePlayed StepTaken StepRefused line t.play refused new
     → new.lacked ≡ false → map string_bytes lines ≡ map string_bytes t.lines.items ++ line ∷ [] → AreTaken t.settings t.nodes.now (map string_bytes lines) new
 line_taken t new line refused lines stands played found put = rw put (one_more_taken t.settings t.nodes.now (map string_bytes t.lines.items) t.play line refused new stands.led played found)
-
-take_front : (front back : List (List ℕ)) → take (length front) (front ++ back) ≡ front
-take_front front back = take-append-le (length front) front back (omega arith) ∙ take_all (length front) front (omega arith)
-
--- what is taken back to where it was
-pub none_left : (m : ℕ) (a b c : Taken) → TakesUpTo m a b → TakesBack b (length a.lines.items) c → TakesUpTo 0 a c
-none_left m a b c some back =
-    let front : map string_bytes (take (length a.lines.items) b.lines.items) ≡ map string_bytes a.lines.items =
-    sym (take-map string_bytes (length a.lines.items) b.lines.items)
-    ∙ ap (take (length a.lines.items)) some.2.lines
-    ∙ ap (λ n. take n (map string_bytes a.lines.items ++ some.0)) (sym (length-map a.lines.items string_bytes))
-    ∙ take_front (map string_bytes a.lines.items) some.0 in (
-      [],
-      omega arith,
-      record {
-        settings = back.settings ∙ some.2.settings;
-        nodes = back.nodes ∙ some.2.nodes;
-        lines = ap (map string_bytes) back.lines ∙ front ∙ sym (append-nil (map string_bytes a.lines.items));
-        stands = back.stands;
-      },
-    )
-
--- ---- lines that were taken are lines of steps
-
-pub are_steps : (lines : List (List ℕ)) (old : Play) (refused : List Refused) (new : Play) → LinesPlayed StepTaken StepRefused lines old refused new → All IsStepLine lines
-are_steps [] old refused new played = All-nil IsStepLine
-are_steps (line ∷ lines) old refused new played =
-    let is = played.4 in
-    All-cons IsStepLine line lines (is.step, is.named) (are_steps lines played.2 played.1 new played.5)

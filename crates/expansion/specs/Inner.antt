@@ -2,3 +2,6 @@
 pub mod Parts
 pub mod Totals
 pub mod Taking
+pub mod Standings
+pub mod Uses
+pub mod Firsts

@@ -2,34 +2,33 @@
 ghost use Rattle.std.specs.Prelude.{◌≡◌, ◌≤◌, ◌*◌, ◌∷◌, [], ℕ, IfErr, IfOk, List, OnOk, length};
 ghost use Rattle.std.specs.Prelude.{map, string_bytes};
 ghost use Rattle.std.specs.List.{All};
-ghost use Rattle.rows.specs.Fits.{NodeIdFits};
-ghost use Rattle.rows.specs.declared.refusal.Refusal.TheVariants.{NoMemory as Memory};
 ghost use Rattle.world.specs.GroupSteps.{WhyNoGroup};
 ghost use Rattle.scenario_file.specs.Complaints.{IsStepLine};
 ghost use Rattle.playing.specs.declared.play.Play.{Play};
 ghost use Rattle.expansion.specs.EachInTurn.{OfEach};
 ghost use Rattle.expansion.specs.Expanded.{AreTaken, LinesOf};
-ghost use Rattle.expansion.specs.Inner.Taking.{StandsAsTaken, TakesBack, TakesIf, TakesMore};
+ghost use Rattle.expansion.specs.Inner.Taking.{StandsAsTaken, TakesIf, TakesMore};
 ghost use Rattle.expansion.specs.Inner.Taking.{TakesUpTo, WhyNoLine, WhyNoShort, WhyNoMore};
 ghost use Rattle.expansion.specs.ShortSteps.{most_at_once, short_step};
 ghost use Rattle.expansion.specs.Stops.{WhyNotExpanded};
 
+use crate::settling::{Left, beat_line, next_of, plan_line, pull_lines, take_line, work_line};
 use crate::short::{MOST, ShortStep};
-use crate::standing::{
-    ServerStanding, Standing, differs, has_laggards, has_pending, has_unapplied, leader,
-    standing_of,
-};
-use playing::lines::{play_line, play_lines};
+use crate::standing::{Standing, standing_of};
+use playing::lines::play_line;
 use playing::play::Play;
-use rows::{NoMemory, NodeSpec, Refusal, ServerId};
+use rows::{NodeSpec, Refusal};
 use scenario_file::scenario::Settings;
-use std::alloc::{AllocError, Global};
-use world::World;
+use std::alloc::Global;
 
 // How often something is done at most where a `settle` has no number.
 const ROUNDS: u64 = 1_000;
 
-// A group, and the steps that led to it from its beginning.
+// How often in a row something is done at most that changes nothing, as where messages are lost.
+const MOST_IN_VAIN: u64 = 20;
+
+// A group, and the steps that led to it from its beginning. What it was made of is named by
+// contracts alone.
 #[derive(Drop)]
 struct Taken<'s> {
     alloc: Global,
@@ -63,54 +62,13 @@ pub fn expanded(
     Ok(taken.into_lines())
 }
 
-// The line by which a server's workers go on.
-fn work_line(alloc: Global, server: ServerId) -> Result<String, AllocError>
-    ensures { IfOk result (λ line. IsStepLine (string_bytes line)) }
-{
-    format!(in alloc; "work {server}")
-}
-
-// The line by which a server weighs a plan.
-fn plan_line(alloc: Global, server: ServerId) -> Result<String, AllocError>
-    ensures { IfOk result (λ line. IsStepLine (string_bytes line)) }
-{
-    format!(in alloc; "plan {server}")
-}
-
-// The line by which a server sends what the others lack.
-fn beat_line(alloc: Global, server: ServerId) -> Result<String, AllocError>
-    ensures { IfOk result (λ line. IsStepLine (string_bytes line)) }
-{
-    format!(in alloc; "beat {server}")
-}
-
-// The line by which a server's workers ask it for an evaluation.
-fn take_line(alloc: Global, server: ServerId) -> Result<String, AllocError>
-    ensures { IfOk result (λ line. IsStepLine (string_bytes line)) }
-{
-    format!(in alloc; "take {server} {server}")
-}
-
-// The line by which a client asks a server for its list.
-fn pull_line(alloc: Global, client: usize, server: ServerId) -> Result<String, AllocError>
-    requires { NodeIdFits client }
-    ensures { IfOk result (λ line. IsStepLine (string_bytes line)) }
-{
-    format!(in alloc; "pull {client} {server}")
-}
-
-// The lines by which clients that run something else than what a server lists ask it for that.
-fn pull_lines(alloc: Global, world: &World, server: ServerId) -> Result<Vec<String>, NoMemory>
-    ensures steps { IfOk result (λ lines. All IsStepLine (map string_bytes lines.items)) }
-    ensures few { IfOk result (λ lines. length lines.items ≤ 64) }
-{
-    let mut lines = Vec::new(alloc);
-    for (place, client) in world.clients().iter().enumerate() {
-        if differs(world, server, client)? {
-            lines.push(pull_line(alloc, place + 1, server)?)?;
-        }
+// How often something may still be done in vain, after something was done.
+fn left_in_vain(left: u64, was_in_vain: bool) -> u64 {
+    if was_in_vain {
+        left.saturating_sub(1)
+    } else {
+        MOST_IN_VAIN
     }
-    Ok(lines)
 }
 
 impl<'s> Taken<'s> {
@@ -174,159 +132,75 @@ impl<'s> Taken<'s> {
         Ok(())
     }
 
-    // Does what is left to do, up to so many times.
+    // Does what is left to do, up to so many times, and until so many of them in a row changed
+    // nothing.
     fn settle(&mut self, most: u64) -> Result<(), Refusal>
         requires { StandsAsTaken self.old }
         ensures ok { OnOk result (TakesUpTo (most * most_at_once) self.old self.new) }
         ensures refused { IfErr result (WhyNoMore (most * most_at_once) self.old) }
     {
+        let mut before = standing_of(self.alloc, &self.play)?;
+        let mut left = MOST_IN_VAIN;
         for _ in 0..most {
-            let done = self.round()?;
+            if left == 0 {
+                return Ok(());
+            }
+            let done = self.round(&before)?;
             if !done {
                 return Ok(());
             }
+            let after = standing_of(self.alloc, &self.play)?;
+            left = left_in_vain(left, before == after);
+            before = after;
         }
         Ok(())
     }
 
     // Does the first of what is left to do, and answers whether there was anything.
-    fn round(&mut self) -> Result<bool, Refusal>
+    fn round(&mut self, standing: &Standing) -> Result<bool, Refusal>
         requires { StandsAsTaken self.old }
         ensures ok { IfOk result (λ done. TakesIf done most_at_once self.old self.new) }
         ensures refused { IfErr result (WhyNoMore most_at_once self.old) }
     {
-        if self.play.flight.len() > 0 {
-            self.line("flow")?;
+        if standing.in_flight {
+            self.flow()?;
             return Ok(true);
         }
-        let before = standing_of(self.alloc, &self.play)?;
-        let worked = self.work(&before)?;
-        if worked {
-            return Ok(true);
-        }
-        self.lead(&before)
+        let Some(left) = next_of(self.alloc, &self.play, standing)? else {
+            return Ok(false);
+        };
+        self.take_left(left)?;
+        Ok(true)
     }
 
-    // The workers of a server go on: of the first for whom that is of use.
-    fn work(&mut self, before: &Standing) -> Result<bool, Refusal>
+    // Takes the steps of what is left to do.
+    fn take_left(&mut self, left: Left) -> Result<(), Refusal>
         requires { StandsAsTaken self.old }
-        ensures ok { IfOk result (λ done. TakesIf done most_at_once self.old self.new) }
+        ensures ok { OnOk result (TakesUpTo most_at_once self.old self.new) }
         ensures refused { IfErr result (WhyNoMore most_at_once self.old) }
     {
-        for (place, server) in before.servers.iter().enumerate() {
-            let done = self.work_at(before, place, server)?;
-            if done {
-                return Ok(true);
+        match left {
+            Left::Work(server) => self.go(&[work_line(self.alloc, server)?]),
+            Left::Plan(server) => self.go(&[plan_line(self.alloc, server)?]),
+            Left::Beat(server) => self.go(&[beat_line(self.alloc, server)?]),
+            Left::Take(server) => self.go(&[take_line(self.alloc, server)?]),
+            Left::Pull(server, news) => {
+                let lines = pull_lines(self.alloc, &self.play.world, server, news)?;
+                self.go(&lines)
             }
         }
-        Ok(false)
     }
 
-    // The workers of the server at a place go on, which stands so.
-    fn work_at(
-        &mut self,
-        before: &Standing,
-        position: usize,
-        own: &ServerStanding,
-    ) -> Result<bool, Refusal>
-        requires { StandsAsTaken self.old }
-        ensures ok { IfOk result (λ done. TakesIf done most_at_once self.old self.new) }
+    // Takes the steps of these lines, and a flow behind them where messages are in flight then.
+    fn go(&mut self, lines: &[String]) -> Result<(), Refusal>
+        requires stands { StandsAsTaken self.old }
+        requires steps { All IsStepLine (map string_bytes lines.now) }
+        requires few { length lines.now ≤ 64 }
+        ensures ok { OnOk result (TakesUpTo most_at_once self.old self.new) }
         ensures refused { IfErr result (WhyNoMore most_at_once self.old) }
     {
-        let idle = own.is_idle;
-        if idle {
-            return Ok(false);
-        }
-        let Some(server) = ServerId::from_position(position) else {
-            return Ok(false);
-        };
-        self.attempt(before, &[work_line(self.alloc, server)?], true)
-    }
-
-    // What is left to do at the leader, and with what it knows.
-    fn lead(&mut self, before: &Standing) -> Result<bool, Refusal>
-        requires { StandsAsTaken self.old }
-        ensures ok { IfOk result (λ done. TakesIf done most_at_once self.old self.new) }
-        ensures refused { IfErr result (WhyNoMore most_at_once self.old) }
-    {
-        let Some(own) = leader(before) else {
-            return Ok(false);
-        };
-        let planned = self.plan(before, own)?;
-        if planned {
-            return Ok(true);
-        }
-        let committed = self.commit(before, own)?;
-        if committed {
-            return Ok(true);
-        }
-        let handed_out = self.hand_out(before, own)?;
-        if handed_out {
-            return Ok(true);
-        }
-        let pulled = self.pull(before, own)?;
-        if pulled {
-            return Ok(true);
-        }
-        self.tell(before, own)
-    }
-
-    // A plan that waits is weighed.
-    fn plan(&mut self, before: &Standing, own: ServerId) -> Result<bool, Refusal>
-        requires { StandsAsTaken self.old }
-        ensures ok { IfOk result (λ done. TakesIf done most_at_once self.old self.new) }
-        ensures refused { IfErr result (WhyNoMore most_at_once self.old) }
-    {
-        if !has_pending(&self.play.world, own) {
-            return Ok(false);
-        }
-        self.attempt(before, &[plan_line(self.alloc, own)?], true)
-    }
-
-    // What is not applied at the leader is sent to the others.
-    fn commit(&mut self, before: &Standing, own: ServerId) -> Result<bool, Refusal>
-        requires { StandsAsTaken self.old }
-        ensures ok { IfOk result (λ done. TakesIf done most_at_once self.old self.new) }
-        ensures refused { IfErr result (WhyNoMore most_at_once self.old) }
-    {
-        if !has_unapplied(before, own) {
-            return Ok(false);
-        }
-        self.attempt(before, &[beat_line(self.alloc, own)?], false)
-    }
-
-    // The workers of the leader ask for an evaluation.
-    fn hand_out(&mut self, before: &Standing, own: ServerId) -> Result<bool, Refusal>
-        requires { StandsAsTaken self.old }
-        ensures ok { IfOk result (λ done. TakesIf done most_at_once self.old self.new) }
-        ensures refused { IfErr result (WhyNoMore most_at_once self.old) }
-    {
-        if !has_pending(&self.play.world, own) {
-            return Ok(false);
-        }
-        self.attempt(before, &[take_line(self.alloc, own)?], false)
-    }
-
-    // Clients that run something else than what is listed ask for their lists.
-    fn pull(&mut self, before: &Standing, own: ServerId) -> Result<bool, Refusal>
-        requires { StandsAsTaken self.old }
-        ensures ok { IfOk result (λ done. TakesIf done most_at_once self.old self.new) }
-        ensures refused { IfErr result (WhyNoMore most_at_once self.old) }
-    {
-        let lines = pull_lines(self.alloc, &self.play.world, own)?;
-        self.attempt(before, &lines, false)
-    }
-
-    // The others are told what is committed.
-    fn tell(&mut self, before: &Standing, own: ServerId) -> Result<bool, Refusal>
-        requires { StandsAsTaken self.old }
-        ensures ok { IfOk result (λ done. TakesIf done most_at_once self.old self.new) }
-        ensures refused { IfErr result (WhyNoMore most_at_once self.old) }
-    {
-        if !has_laggards(before, own) {
-            return Ok(false);
-        }
-        self.attempt(before, &[beat_line(self.alloc, own)?], false)
+        self.take_lines(lines)?;
+        self.flow()
     }
 
     // Takes the steps of these lines.
@@ -352,47 +226,5 @@ impl<'s> Taken<'s> {
             return Ok(());
         }
         self.line("flow")
-    }
-
-    // Takes these steps, and a flow behind them where messages are in flight then. Where nothing
-    // changed by them they are taken back. With `counts` a message that was sent is a change too.
-    fn attempt(
-        &mut self,
-        before: &Standing,
-        lines: &[String],
-        counts: bool,
-    ) -> Result<bool, Refusal>
-        requires stands { StandsAsTaken self.old }
-        requires steps { All IsStepLine (map string_bytes lines.now) }
-        requires few { length lines.now ≤ 64 }
-        ensures ok { IfOk result (λ done. TakesIf done most_at_once self.old self.new) }
-        ensures refused { IfErr result (WhyNoMore most_at_once self.old) }
-    {
-        let (kept, sent) = (self.lines.len(), self.play.world.sent().len());
-        self.take_lines(lines)?;
-        self.flow()?;
-        let after = standing_of(self.alloc, &self.play)?;
-        if *before != after || (counts && sent < self.play.world.sent().len()) {
-            return Ok(true);
-        }
-        self.take_back(kept)?;
-        Ok(false)
-    }
-
-    // Takes all lines back but the first ones: those are played anew.
-    fn take_back(&mut self, kept: usize) -> Result<(), Refusal>
-        requires { StandsAsTaken self.old }
-        ensures ok { OnOk result (TakesBack self.old kept self.new) }
-        ensures refused { IfErr result (λ refusal. refusal ≡ Memory) }
-    {
-        if kept < self.lines.len() {
-            self.lines.truncate(kept);
-            self.play = Play::new(self.alloc, self.settings, self.nodes)?;
-            play_lines(self.alloc, &self.lines, &mut self.play)?;
-            if self.play.lacked {
-                return Err(Refusal::NoMemory);
-            }
-        }
-        Ok(())
     }
 }

@@ -3,5 +3,7 @@
 
 pub mod expanding;
 pub mod plain;
+mod settling;
 pub mod short;
 mod standing;
+mod useful;

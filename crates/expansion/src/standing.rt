@@ -1,16 +1,22 @@
 //! How a group stands: what a step of settling may change.
-use client_agent::{Agent, RunningAllocation};
-use fsm_state::Cluster;
+ghost use Rattle.std.specs.Prelude.{◌≡◌, ◌/◌, false, MatchOption, count_by, length};
+ghost use Rattle.std.specs.Prelude.{nat_lt, option_map};
+ghost use Rattle.std.specs.List.{list_any};
+ghost use Rattle.expansion.specs.Inner.Standings.{IsLatestLeader, StandsSo, has_all_applied};
+ghost use Rattle.expansion.specs.Inner.Standings.{is_behind, is_shorter, is_up, later, leads, plans_of};
+
+use client_agent::Agent;
 use playing::play::Play;
 use raft_core::Role;
-use rows::{AllocId, Allocation, ClientState, EvalStatus, Index, NoMemory, ServerId, Term};
+use rows::{AllocId, Index, NoMemory, ServerId, Term};
 use server::Server;
 use std::alloc::Global;
-use world::World;
 
 /// How a server stands.
 #[derive(Clone, Copy, PartialEq, Eq)]
 pub(crate) struct ServerStanding {
+    /// The server.
+    pub id: ServerId,
     /// What it is doing, while it is up.
     pub role: Option<Role>,
     /// Its term.
@@ -19,8 +25,10 @@ pub(crate) struct ServerStanding {
     pub last: Index,
     /// How many entries it has applied, while it is up.
     pub applied: Option<Index>,
-    /// Whether nothing waits for its workers.
-    pub is_idle: bool,
+    /// How many answers wait for its workers.
+    pub waiting: usize,
+    /// How many plans wait at its desk; none do where that is closed.
+    pub plans: usize,
 }
 
 /// How a group stands.
@@ -30,45 +38,58 @@ pub(crate) struct Standing {
     pub servers: Vec<ServerStanding>,
     /// What runs at its clients, in order; of one that is down nothing is told.
     pub running: Vec<AllocId>,
+    /// Whether messages are in flight.
+    pub in_flight: bool,
 }
 
-fn server_standing(server: &Server, is_idle: bool) -> ServerStanding {
+// ---- how a group stands
+
+fn server_standing(id: ServerId, server: &Server, waiting: usize) -> ServerStanding
+    ensures { StandsSo id server.now waiting result }
+{
     ServerStanding {
+        id,
         role: server.role(),
         term: server.term(),
         last: server.last(),
         applied: server.applied(),
-        is_idle,
+        waiting,
+        plans: plans_of(server),
     }
+}
+
+fn plans_of(server: &Server) -> usize
+    ensures { result ≡ plans_of server.now.desk }
+{
+    match server.desk().plans() {
+        Some(plans) => plans.len(),
+        None => 0,
+    }
+}
+
+fn standing_at(play: &Play, position: usize) -> Option<ServerStanding> {
+    let id = ServerId::from_position(position)?;
+    let server = play.world.server(id)?;
+    Some(server_standing(id, server, play.workers[id.position()].len()))
 }
 
 /// How the group of a play stands.
 pub(crate) fn standing_of(alloc: Global, play: &Play) -> Result<Standing, NoMemory> {
     let mut servers = Vec::new(alloc);
-    for place in 0..play.world.size() {
-        put_server(play, place, &mut servers)?;
+    for position in 0..play.world.size() {
+        if let Some(own) = standing_at(play, position) {
+            servers.push(own)?;
+        }
     }
     let mut running = Vec::new(alloc);
     for client in play.world.clients() {
         put_running(client, &mut running)?;
     }
-    Ok(Standing { servers, running })
-}
-
-fn put_server(
-    play: &Play,
-    position: usize,
-    servers: &mut Vec<ServerStanding>,
-) -> Result<(), NoMemory> {
-    let Some(id) = ServerId::from_position(position) else {
-        return Ok(());
-    };
-    let Some(server) = play.world.server(id) else {
-        return Ok(());
-    };
-    let is_idle = play.workers[id.position()].is_idle();
-    servers.push(server_standing(server, is_idle))?;
-    Ok(())
+    Ok(Standing {
+        servers,
+        running,
+        in_flight: play.flight.len() > 0,
+    })
 }
 
 fn put_running(client: &Agent, running: &mut Vec<AllocId>) -> Result<(), NoMemory> {
@@ -81,81 +102,97 @@ fn put_running(client: &Agent, running: &mut Vec<AllocId>) -> Result<(), NoMemor
     Ok(())
 }
 
+// ---- who leads
+
 /// The server that leads in the greatest term in which one leads; none where none leads.
-pub(crate) fn leader(standing: &Standing) -> Option<ServerId> {
-    let mut found: Option<(ServerId, Term)> = None;
-    for (position, server) in standing.servers.iter().enumerate() {
-        if leads_later(&found, server) {
-            found = with_term(ServerId::from_position(position), server.term);
-        }
+pub(crate) fn leader(servers: &[ServerStanding]) -> Option<&ServerStanding>
+    ensures { MatchOption result (list_any leads servers.now ≡ false)
+        (λ own. IsLatestLeader servers.now own.now) }
+{
+    let mut found = None;
+    for server in servers {
+        found = later(found, server);
+    }
+    found
+}
+
+// Of what was found and one server more, the one that leads in the later term.
+fn later<'a>(
+    found: Option<&'a ServerStanding>,
+    server: &'a ServerStanding,
+) -> Option<&'a ServerStanding>
+    ensures { option_map (λ s. s.now) result
+        ≡ later (option_map (λ s. s.now) found.entry) server.now }
+{
+    if !leads(server) {
+        return found;
     }
     match found {
-        Some((id, _)) => Some(id),
-        None => None,
+        Some(other) if server.term <= other.term => found,
+        _ => Some(server),
     }
 }
 
-fn with_term(id: Option<ServerId>, term: Term) -> Option<(ServerId, Term)> {
-    Some((id?, term))
-}
-
-// Whether a server leads, and in a later term than what was found.
-fn leads_later(found: &Option<(ServerId, Term)>, server: &ServerStanding) -> bool {
-    if server.role != Some(Role::Leader) {
-        return false;
-    }
-    match found {
-        Some((_, other)) => *other < server.term,
-        None => true,
+fn leads(server: &ServerStanding) -> bool
+    ensures { result ≡ leads server.now }
+{
+    match server.role {
+        Some(Role::Leader) => true,
+        Some(Role::Candidate | Role::Follower) | None => false,
     }
 }
 
-/// Whether the log of a server that is up has entries that are not applied there.
-pub(crate) fn has_unapplied(standing: &Standing, server: ServerId) -> bool {
-    match standing.servers.get(server.position()) {
-        Some(own) => own.applied.is_some() && own.applied != Some(own.last),
+// ---- how far the logs are
+
+/// Whether all of its log is applied at a server, which is up.
+pub(crate) fn has_all_applied(own: &ServerStanding) -> bool
+    ensures { result ≡ has_all_applied own.now }
+{
+    match own.applied {
+        Some(applied) => applied == own.last,
         None => false,
     }
+}
+
+/// Whether more than half of the servers are up.
+pub(crate) fn is_quorum_up(servers: &[ServerStanding]) -> bool
+    ensures { result ≡ nat_lt (length servers.now / 2) (count_by is_up servers.now) }
+{
+    let up = servers.iter().filter(|server| is_up(server)).count();
+    servers.len() / 2 < up
+}
+
+fn is_up(server: &ServerStanding) -> bool
+    ensures { result ≡ is_up server.now }
+{
+    server.applied.is_some()
+}
+
+/// Whether a server that is up has a shorter log than this one.
+pub(crate) fn is_one_shorter(servers: &[ServerStanding], own: &ServerStanding) -> bool
+    ensures { result ≡ list_any (λ s. is_shorter s own.now) servers.now }
+{
+    servers.iter().any(|other| is_shorter(other, own))
+}
+
+fn is_shorter(other: &ServerStanding, own: &ServerStanding) -> bool
+    ensures { result ≡ is_shorter other.now own.now }
+{
+    is_up(other) && other.last < own.last
 }
 
 /// Whether a server that is up has applied less than this one.
-pub(crate) fn has_laggards(standing: &Standing, server: ServerId) -> bool {
-    match standing.servers.get(server.position()) {
-        Some(own) => standing.servers.iter().any(|other| other.applied.is_some()
-            && other.applied < own.applied),
-        None => false,
+pub(crate) fn is_one_behind(servers: &[ServerStanding], own: &ServerStanding) -> bool
+    ensures { result ≡ list_any (λ s. is_behind s own.now) servers.now }
+{
+    servers.iter().any(|other| is_behind(other, own))
+}
+
+fn is_behind(other: &ServerStanding, own: &ServerStanding) -> bool
+    ensures { result ≡ is_behind other.now own.now }
+{
+    match (other.applied, own.applied) {
+        (Some(less), Some(most)) => less < most,
+        _ => false,
     }
-}
-
-/// Whether an evaluation is pending in the state of a server that is up.
-pub(crate) fn has_pending(world: &World, server: ServerId) -> bool {
-    match state_of(world, server) {
-        Some(state) => is_pending_in(state),
-        None => false,
-    }
-}
-
-fn state_of(world: &World, server: ServerId) -> Option<&Cluster> {
-    world.server(server)?.state()
-}
-
-fn is_pending_in(state: &Cluster) -> bool {
-    state
-        .eval_table()
-        .rows()
-        .any(|row| row.status == EvalStatus::Pending)
-}
-
-/// Whether a client that is up runs something else than what the state of a server has for its
-/// node, or that does not know yet that it runs.
-pub(crate) fn differs(world: &World, server: ServerId, client: &Agent) -> Result<bool, NoMemory> {
-    let (Some(state), Some(running)) = (state_of(world, server), client.running()) else {
-        return Ok(false);
-    };
-    let listed = state.live_on(client.node().number)?;
-    Ok(listed.len() != running.len() || !listed.as_slice().iter().all(|row| is_known(row, running)))
-}
-
-fn is_known(row: &Allocation, running: &[RunningAllocation]) -> bool {
-    row.client == ClientState::Running && running.iter().any(|own| own.id == row.id)
 }

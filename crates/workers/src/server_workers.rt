@@ -1,6 +1,7 @@
 //! What waits for the workers of one server.
 ghost use Rattle.std.specs.Prelude.{◌≡◌, ◌≢◌, ◌++◌, ◌∷◌, [], true};
 ghost use Rattle.std.specs.Prelude.{IfOk, IfSome, MatchBool, MatchOption, OnErr, OnOk};
+ghost use Rattle.std.specs.Prelude.{length, option_map, slice_get};
 ghost use Rattle.group_inputs.specs.Handings.{OwnInput, handing};
 ghost use Rattle.group_model.specs.NextStep.{IsNextStep};
 ghost use Rattle.scheduler.specs.Steps.{makes_plan, step_as};
@@ -117,6 +118,20 @@ impl ServerWorkers {
         ensures { MatchBool result (self.now.waiting ≡ []) (self.now.waiting ≢ []) }
     {
         self.waiting.is_empty()
+    }
+
+    /// How much waits.
+    pub fn len(&self) -> usize
+        ensures { result ≡ length self.now.waiting }
+    {
+        self.waiting.len()
+    }
+
+    /// The oldest that waits, which stays; none where nothing waits.
+    pub fn first(&self) -> Option<&Work>
+        ensures { option_map (λ work. work.now) result ≡ slice_get self.now.waiting 0 }
+    {
+        self.waiting.first()
     }
 
     /// Takes up the oldest that waits; none where nothing waits. It comes with the number of plans

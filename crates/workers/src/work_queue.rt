@@ -1,6 +1,7 @@
 //! What waits for one server's workers.
 ghost use Rattle.std.specs.Prelude.{◌≡◌, ◌≢◌, ◌++◌, ◌∷◌, []};
 ghost use Rattle.std.specs.Prelude.{MatchBool, MatchOption, OnErr, OnOk};
+ghost use Rattle.std.specs.Prelude.{length, option_map, slice_get};
 
 use rows::{NoMemory, Work};
 use std::alloc::Global;
@@ -56,6 +57,20 @@ impl WorkQueue {
         ensures { MatchBool result (self.now ≡ []) (self.now ≢ []) }
     {
         self.items.is_empty()
+    }
+
+    /// How much waits.
+    pub(crate) fn len(&self) -> usize
+        ensures { result ≡ length self.now }
+    {
+        self.items.len()
+    }
+
+    /// The oldest; none where nothing waits.
+    pub(crate) fn first(&self) -> Option<&Work>
+        ensures { option_map (λ work. work.now) result ≡ slice_get self.now 0 }
+    {
+        self.items.front()
     }
 
     /// Takes the oldest; none where nothing waits.

@@ -1,5 +1,5 @@
 -- A group, and the lines that led to it.
-use Rattle.std.specs.Prelude.{◌≡◌, ◌⊎◌, ◌<◌, ◌≤◌, ◌+◌, ◌++◌, ℕ, Bool, true, false, List, length, map, string_bytes, take}
+use Rattle.std.specs.Prelude.{◌≡◌, ◌⊎◌, ◌<◌, ◌≤◌, ◌+◌, ◌++◌, ℕ, Bool, true, false, List, length, map, string_bytes}
 use Rattle.rows.specs.declared.refusal.Refusal.{Refusal}
 use Rattle.rows.specs.declared.refusal.Refusal.TheVariants.{NoMemory, OutOfRange}
 use Rattle.scenario_file.specs.Complaints.{IsStepLine}
@@ -28,13 +28,6 @@ TakesUpTo most old new = (own : List (List ℕ)) × (length own ≤ most) × Tak
 abbrev pub TakesIf : Bool → ℕ → Taken → Taken → Type 0
 TakesIf true most old new = TakesUpTo most old new
 TakesIf false most old new = TakesUpTo 0 old new
-
--- it took all back but the first ones
-pub record TakesBack (old : Taken) (kept : ℕ) (new : Taken) : Type 0 where
-  pub settings : new.settings ≡ old.settings
-  pub nodes : new.nodes.now ≡ old.nodes.now
-  pub lines : new.lines.items ≡ take kept old.lines.items
-  pub stands : StandsAsTaken new
 
 -- ---- why nothing more is taken
 
