@@ -2,8 +2,8 @@ use Rattle.std.proofs.Common.{◌≡◌, Err, arith, rules}
 use Rattle.expansion.proofs.Taking.{none_more, stops_with_more, up_to_more}
 use Rattle.expansion.proofs.expanding.Taken.round.Goals as goal
 
-pub returns-then-in_flight-clause-ok : goal.returns-then-in_flight-clause-ok
-returns-then-in_flight-clause-ok c = up_to_more 1 65 c.args.self.now c.flow.new.self (omega arith) c.in_ok-flow.ensures.ok
+pub returns-then-standing-clause-ok : goal.returns-then-standing-clause-ok
+returns-then-standing-clause-ok c = up_to_more 1 65 c.args.self.now c.flow.new.self (omega arith) c.in_ok-flow.ensures.ok
 
 pub returns-in_err-flow-clause-refused : goal.returns-in_err-flow-clause-refused
 returns-in_err-flow-clause-refused c =

@@ -27,7 +27,7 @@ pub returns-in_err-done-clause-refused : goal.returns-in_err-done-clause-refused
 returns-in_err-done-clause-refused c =
     let k = c.loop.counter in
     let within : k < c.args.most = search rules in
-    let same : c.from_residual.result ≡ Err c.in_err-done.field-0.0 = search rules in
+    let same : c.from_residual-in_err-done.result ≡ Err c.in_err-done.field-0.0 = search rules in
     let why = stops_behind (k * 65) 65 c.args.self.now c.loop.self c.in_err-done.field-0.0 c.loop.invariant c.in_err-done.ensures.refused in
     rw same (stops_with_more (k * 65 + 65) (c.args.most * 65) c.args.self.now c.in_err-done.field-0.0 (omega (arith, within)) why)
 

@@ -4,13 +4,13 @@ use Rattle.scenario_file.specs.Complaints.{IsStepLine}
 use Rattle.expansion.proofs.expanding.Taken.take_left.Goals as goal
 
 pub go-requires-clause-steps : goal.go-requires-clause-steps
-go-requires-clause-steps c = All-cons IsStepLine _ [] c.in_ok-work_line.ensures (All-nil IsStepLine)
+go-requires-clause-steps c = All-cons IsStepLine _ [] c.in_ok-work_line-in-Work.ensures (All-nil IsStepLine)
 
-pub go-2-requires-clause-steps : goal.go-2-requires-clause-steps
-go-2-requires-clause-steps c = All-cons IsStepLine _ [] c.in_ok-plan_line.ensures (All-nil IsStepLine)
+pub go-requires-in-Plan-clause-steps : goal.go-requires-in-Plan-clause-steps
+go-requires-in-Plan-clause-steps c = All-cons IsStepLine _ [] c.in_ok-plan_line-in-Plan.ensures (All-nil IsStepLine)
 
-pub go-3-requires-clause-steps : goal.go-3-requires-clause-steps
-go-3-requires-clause-steps c = All-cons IsStepLine _ [] c.in_ok-beat_line.ensures (All-nil IsStepLine)
+pub go-requires-in-Beat-clause-steps : goal.go-requires-in-Beat-clause-steps
+go-requires-in-Beat-clause-steps c = All-cons IsStepLine _ [] c.in_ok-beat_line-in-Beat.ensures (All-nil IsStepLine)
 
-pub go-4-requires-clause-steps : goal.go-4-requires-clause-steps
-go-4-requires-clause-steps c = All-cons IsStepLine _ [] c.in_ok-take_line.ensures (All-nil IsStepLine)
+pub go-requires-in-Take-clause-steps : goal.go-requires-in-Take-clause-steps
+go-requires-in-Take-clause-steps c = All-cons IsStepLine _ [] c.in_ok-take_line-in-Take.ensures (All-nil IsStepLine)
