@@ -39,7 +39,7 @@ loop-place-preserved c =
     drop-map string_bytes i row ∙ ap (map string_bytes) own
     ∙ ap (λ (x : List (List ℕ)). string_bytes cell ∷ x) (sym (drop-map string_bytes (i + 1) row)) in
     ap (λ (l : Laid). l.line)
-        (column_more _ _ cells widths i (string_bytes cell) _ (search rules) cs (drop_more widths i 0 lw))
+    (column_more _ _ cells widths i (string_bytes cell) _ (search rules) cs (drop_more widths i 0 lw))
     ∙ c.loop-place.invariant
 
 pub returns : goal.returns
