@@ -15,4 +15,5 @@ mod states;
 
 pub use fault::InspectError;
 pub use inspecting::{Form, inspect};
-pub use moments::{Moments, each_moment};
+pub use moments::each_moment;
+pub use report_lines::{Change, Moments};

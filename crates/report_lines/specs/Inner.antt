@@ -1,2 +1,5 @@
 -- Words of private contracts.
 pub mod Entries
+pub mod Lines
+pub mod Recorded
+pub mod Walks

@@ -11,6 +11,15 @@ pub fn owned(alloc: Global, text: &str) -> Result<String, NoMemory>
     Ok(String::from_str(alloc, text)?)
 }
 
+/// A row of these heads.
+pub(crate) fn heads_of(alloc: Global, heads: &[&str]) -> Result<Vec<String>, NoMemory> {
+    let mut row = Vec::new(alloc);
+    for head in heads {
+        row.push(owned(alloc, head)?)?;
+    }
+    Ok(row)
+}
+
 /// Rows of cells whose columns line up.
 #[derive(Drop)]
 pub struct Grid {
@@ -31,11 +40,17 @@ fn widen(widths: &mut Vec<usize>, column: usize, width: usize) -> Result<(), NoM
 fn widths(alloc: Global, rows: &[Vec<String>]) -> Result<Vec<usize>, NoMemory> {
     let mut widths = Vec::new(alloc);
     for row in rows {
-        for (column, cell) in row.iter().enumerate() {
-            widen(&mut widths, column, cell.len())?;
-        }
+        widen_row(&mut widths, row)?;
     }
     Ok(widths)
+}
+
+/// Columns are wide enough for these cells.
+pub(crate) fn widen_row(widths: &mut Vec<usize>, row: &[String]) -> Result<(), NoMemory> {
+    for (column, cell) in row.iter().enumerate() {
+        widen(widths, column, cell.len())?;
+    }
+    Ok(())
 }
 
 fn push_spaces(line: &mut String, count: usize) -> Result<(), NoMemory> {
@@ -45,8 +60,8 @@ fn push_spaces(line: &mut String, count: usize) -> Result<(), NoMemory> {
     Ok(())
 }
 
-// The line of a row, without spaces at its end.
-fn line_of(alloc: Global, row: &[String], widths: &[usize]) -> Result<String, NoMemory> {
+/// The line of a row, without spaces at its end.
+pub(crate) fn line_of(alloc: Global, row: &[String], widths: &[usize]) -> Result<String, NoMemory> {
     let mut line = String::new(alloc);
     let mut owed = 0usize;
     for (cell, width) in row.iter().zip(widths) {

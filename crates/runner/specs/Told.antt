@@ -61,16 +61,18 @@ TellsThreads file written status old new =
 
 -- ---- transcripts
 
--- the output grows by a page of a run of so many servers, clients and events, or by a picture
-abbrev pub ShowsRun : Bool → ℕ → ℕ → ℕ → Option (List ℕ) → Option (List ℕ) → Type 0
-ShowsRun true servers clients events old new = GrowsByPage servers clients events old new
-ShowsRun false servers clients events old new = GrowsByPicture servers clients events old new
+-- the output grows by a page of a run of so many servers, clients and events, which has the name of the
+-- file at this path, or by a picture
+abbrev pub ShowsRun : Bool → List ℕ → ℕ → ℕ → ℕ → Option (List ℕ) → Option (List ℕ) → Type 0
+ShowsRun true path servers clients events old new = GrowsByPage path servers clients events old new
+ShowsRun false path servers clients events old new = GrowsByPicture servers clients events old new
 
--- a transcript was drawn, as a page or as a picture: that of the file, where its bytes are known
-pub record TellsPicture (file : Option (List ℕ)) (html : Bool) (status : ℕ) (old new : Option (List ℕ)) : Type 0 where
+-- a transcript was drawn, as a page or as a picture: that of the file at this path, where its bytes
+-- are known
+pub record TellsPicture (path : List ℕ) (file : Option (List ℕ)) (html : Bool) (status : ℕ) (old new : Option (List ℕ)) : Type 0 where
   pub recorded : Recorded
   pub read : IfSome file (IsTranscript recorded)
-  pub picture : ShowsRun html recorded.servers (length recorded.nodes) (length recorded.events) old new
+  pub picture : ShowsRun html path recorded.servers (length recorded.nodes) (length recorded.events) old new
   pub taken : status ≡ 0
 
 -- a transcript was told event by event: that of the file, where its bytes are known
@@ -146,7 +148,7 @@ Tells before after (Run file out) status old new =
 Tells before after (Threads file workers out) status old new =
     TellsThreads (before file.now) (option_and_then after (option_map (λ t. t.now) out)) status old new
 Tells before after (Replay file) status old new = TellsReplay (before file.now) status old new
-Tells before after (Draw file html) status old new = TellsPicture (before file.now) html status old new
+Tells before after (Draw file html) status old new = TellsPicture file.now (before file.now) html status old new
 Tells before after (Check file) status old new = TellsNotes (before file.now) status old new
 Tells before after (Tell file) status old new = TellsEach (before file.now) status old new
 Tells before after (Inspect file at json) status old new =
