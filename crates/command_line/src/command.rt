@@ -5,7 +5,7 @@ ghost use Rattle.clap.specs.declared.builder.command.Command.TheViews.{out-Comma
 ghost use Rattle.clap.specs.declared.error.kind.ErrorKind.TheVariants.{OutOfMemory, ValueValidation};
 ghost use Rattle.command_line.specs.Inner.Commands.{IsMade};
 ghost use Rattle.command_line.specs.Inner.Lines.{complaint_text, is_line, is_taken};
-ghost use Rattle.command_line.specs.Words.{AreSweepWords, AreWorkers, AskFor, IsNamedLine, IsLineFor, app_with, are_sweep_words, are_workers, at_option, bare_app, check_app, csv_flag, draw_app, expand_app, html_flag, inspect_app, jobs_option, json_flag, keys_app, keys_option, nomadsim_app, out_option, percent_option, percents_app, replay_app, required_word, run_app, says_yes, sweep_app, tell_app, threads_app, words_fault, workers_option};
+ghost use Rattle.command_line.specs.Words.{AreSweepWords, AreWorkers, AskFor, IsNamedLine, IsLineFor, app_with, are_sweep_words, are_workers, at_option, bare_app, check_app, csv_flag, draw_app, expand_app, html_flag, inspect_app, jobs_option, json_flag, keys_app, keys_option, nomadsim_app, out_option, percent_option, percents_app, replay_app, required_word, run_app, says_yes, short_flag, sweep_app, tell_app, threads_app, words_fault, workers_option};
 
 use crate::help::{
     ABOUT, CHECKS, DRAWS, ENDS, EXPANDS, INSPECTS, NO_COUNT, NO_KEYS, NO_NUMBER, REPLAYS, SCENARIO,
@@ -72,10 +72,13 @@ pub enum CommandLine<'a> {
         /// Whether as a page, with how the group stands beside the picture.
         html: bool,
     },
-    /// `check FILE`: what is wrong with the scenario in that file is said, and it is not played.
+    /// `check FILE [--short]`: what is wrong with the scenario in that file is said, and it is not
+    /// played.
     Check {
         /// The scenario's file, `-` for the standard input.
         file: &'a str,
+        /// Whether it is one in short form.
+        short: bool,
     },
     /// `tell T`: what each event of a transcript did is told.
     Tell {
@@ -155,6 +158,16 @@ fn html_arg<'a>(alloc: Global) -> Arg<'a>
         .long("html")
         .action(ArgAction::SetTrue)
         .help("Prints a page that also tells how the group stands")
+}
+
+fn short_arg<'a>(alloc: Global) -> Arg<'a>
+    ensures rule { rule_of result ≡ short_flag }
+    ensures local { result.global ≡ false }
+{
+    Arg::new(alloc, "short")
+        .long("short")
+        .action(ArgAction::SetTrue)
+        .help("The file is one in short form, as 'nomadsim expand' takes it")
 }
 
 fn json_arg<'a>(alloc: Global) -> Arg<'a>
@@ -253,14 +266,15 @@ fn draw_command<'a>(alloc: Global) -> Result<Command<'a>, Error>
 fn check_command<'a>(alloc: Global) -> Result<Command<'a>, Error>
     ensures { IsMade check_app result }
 {
-    begun(
+    let command = begun(
         alloc,
         "check",
         "Says what is wrong with a scenario, without playing it",
         CHECKS,
         "FILE",
         SCENARIO,
-    )
+    );
+    with_arg(command, short_arg(alloc))
 }
 
 fn tell_command<'a>(alloc: Global) -> Result<Command<'a>, Error>
@@ -485,7 +499,8 @@ fn check_line<'a>(given: &ArgMatches<'a>) -> Option<CommandLine<'a>>
         ≡ false) }
 {
     let file = value_of(given, "FILE")?;
-    Some(CommandLine::Check { file })
+    let short = says_yes(value_of(given, "short"));
+    Some(CommandLine::Check { file, short })
 }
 
 fn tell_line<'a>(given: &ArgMatches<'a>) -> Option<CommandLine<'a>>
@@ -588,30 +603,60 @@ fn complaint(matches: &ArgMatches<'_>) -> &'static str
     }
 }
 
+// The subcommand alone whose words the complaint is of, so that the usage that is shown is its own.
+fn complained<'a>(alloc: Global, matches: &ArgMatches<'_>) -> Result<Command<'a>, Error>
+    ensures { IfErr result (λ e. kind_of e ≡ OutOfMemory) }
+{
+    match matches.subcommand() {
+        Some(("sweep", _)) => under_name(sweep_command(alloc), "nomadsim sweep"),
+        _ => under_name(threads_command(alloc), "nomadsim threads"),
+    }
+}
+
+// The command, whose usage begins with this name.
+fn under_name<'a>(command: Result<Command<'a>, Error>, name: &str) -> Result<Command<'a>, Error>
+    ensures { IfErr command.entry (λ e. kind_of e ≡ OutOfMemory)
+        → IfErr result (λ e. kind_of e ≡ OutOfMemory) }
+{
+    let command = command?.bin_name(name)?;
+    Ok(command)
+}
+
+// What is told of words that ask for no line.
+fn word_error(alloc: Global, matches: &ArgMatches<'_>) -> Result<Error, Error>
+    ensures ok { IfOk result (λ e. kind_of e ≡ ValueValidation) }
+    ensures memory { IfErr result (λ e. kind_of e ≡ OutOfMemory) }
+{
+    let mut command = complained(alloc, matches)?;
+    let error = command.error(ErrorKind::ValueValidation, complaint(matches))?;
+    Ok(error)
+}
+
 // The line that these matches name, or the error that it is none.
-fn line_or_error<'a>(
-    program: &mut Command<'a>,
-    matches: &ArgMatches<'a>,
-) -> Result<CommandLine<'a>, Error>
+fn line_or_error<'a>(alloc: Global, matches: &ArgMatches<'a>) -> Result<CommandLine<'a>, Error>
     ensures ok { IfOk result (IsNamedLine (subcommand_rows_of matches.now)) }
     ensures untaken { IfErr result (λ e. is_taken (subcommand_rows_of matches.now) ≡ false) }
     ensures kind { IfErr result (λ e. (kind_of e ≡ OutOfMemory) ⊎ (kind_of e ≡ ValueValidation)) }
 {
     match line_of(matches) {
         Some(line) => Ok(line),
-        None => Err(program.error(ErrorKind::ValueValidation, complaint(matches))?),
+        None => Err(word_error(alloc, matches)?),
     }
 }
 
 // What the words ask for, by the program's own command.
-fn line_by<'a>(program: &mut Command<'a>, words: &'a [&'a str]) -> Result<CommandLine<'a>, Error>
+fn line_by<'a>(
+    alloc: Global,
+    program: &mut Command<'a>,
+    words: &'a [&'a str],
+) -> Result<CommandLine<'a>, Error>
     ensures named { app_of program.old ≡ nomadsim_app
         → IfOk result (AskFor (map (λ w. w.now) words.entry.now)) }
     ensures faults { app_of program.old ≡ nomadsim_app
         → FailsBy (words_fault (map (λ w. w.now) words.entry.now)) result }
 {
     let matches = program.try_get_matches_from_mut(words)?;
-    line_or_error(program, &matches)
+    line_or_error(alloc, &matches)
 }
 
 /// Reads the words of a command line, of which the first names the program. Words that ask for help
@@ -623,5 +668,5 @@ pub fn command<'a>(alloc: Global, words: &'a [&'a str]) -> Result<CommandLine<'a
     ensures faults { FailsBy (words_fault (map (λ w. w.now) words.entry.now)) result }
 {
     let mut program = program(alloc)?;
-    line_by(&mut program, words)
+    line_by(alloc, &mut program, words)
 }

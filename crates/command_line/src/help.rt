@@ -43,7 +43,11 @@ A refused step is told by its number and its line:
   6  snapshot too old       13  table full          20  node not draining
   7  job changed            14  exhausted           21  unknown allocation
 
-An actor that finds no memory goes down as in a crash, and the run goes on.";
+An actor that finds no memory goes down as in a crash, and the run goes on.
+
+With --out T the file T is written before the last lines are printed. Where it
+cannot be written, only the lines of refused steps were printed. Where the
+standard output fails, the exit status is 2 and nothing more is said.";
 
 pub(crate) const STEPS: &str = "\
 The file is a JSON object with exactly these keys:
@@ -138,7 +142,7 @@ With --out T the file T gets a transcript of what happened, before the last
 lines are printed; 'nomadsim replay T' and 'nomadsim draw T' take it.
 
 'nomadsim check FILE' says what is wrong with a file, and of each step that is
-none what it has to be.";
+none which part of it is.";
 
 pub(crate) const THREADS: &str = "\
 The file is one of 'nomadsim run --help'. Each server and each client has a
@@ -239,26 +243,36 @@ Example:
 
 pub(crate) const CHECKS: &str = "\
 The file and each of its steps are read, and no step is taken. What is wrong is
-printed: the first thing in a file that holds no scenario, else each step that
-is none, with what it has to be. The exit status is 0 where nothing is wrong,
-and 2 where something is. 'nomadsim run --help' says what a scenario's file
-holds.
+printed: the first thing in a file that holds no scenario, else of each step
+that is none its number, its line, and the first part of it that is wrong. The
+exit status is 0 where nothing is wrong, and 2 where something is. 'nomadsim run
+--help' says what a scenario's file holds.
 
-Example:
-  nomadsim check data/first-election.json";
+With --short the file is one in short form, as 'nomadsim expand --help' says. In
+a list that is repeated a step has more than one number: 3.2 is the second step
+of the list that stands third.
+
+Examples:
+  nomadsim check data/first-election.json
+  nomadsim check data/bad-net.short --short";
 
 pub(crate) const EXPANDS: &str = "\
 The file is one of 'nomadsim run --help', in whose list of steps there may stand
 also
-    settle      what is left to do is done: the first of these that changes
-                something, and so on until none does, or 1000 times
+    settle      what is left to do is done: the first of these that is of use,
+                and so on until none is, or 1000 times, or until 20 in a row
+                changed nothing, as where messages are lost
                   flow        where messages are in flight
-                  work S      of each server S
-                  plan S      at the leader, the one of the greatest term
-                  beat S      where not all of its log is applied there
-                  take S S
-                  pull C S    of all clients C that run something else than
-                              what the leader's state has for them
+                  work S      of each server S, where what waits for its workers
+                              asks for no later state of S
+                  plan S      at the leader, the one of the greatest term, where
+                              a plan waits
+                  beat S      where not all of its log is applied there, and
+                              more than half of the servers are up, or one that
+                              is up has a shorter log
+                  take S S    where it has an evaluation to give out
+                  pull C S    of all clients C that start, stop or report
+                              something by the leader's list
                   beat S      where others that are up have applied less
                 with a 'flow' behind it where messages are in flight then
     settle N    the same, up to N times, N from 0 to 18446744073709551615
@@ -292,7 +306,9 @@ of those with most events.
 
 With --csv there is a line for each key instead, behind one of their names: the
 key, the leader, the greatest term, how many steps were refused, how many
-allocations live, how many of them run, events and messages.
+allocations live, how many of them run, events and messages. Lines are printed
+in the order of their keys while later keys are played; where the output fails,
+those that were printed stand.
 
 The exit status is 0, whether steps were refused or not.
 

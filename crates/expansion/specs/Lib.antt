@@ -1,6 +1,7 @@
 pub mod EachInTurn
 pub mod ShortSteps
 pub mod Shorts
+pub mod Checked
 pub mod Expanded
 pub mod Plains
 pub mod Inner
