@@ -1,3 +1,4 @@
 -- Words of private contracts.
 pub mod Findings
 pub mod Deliveries
+pub mod Desks

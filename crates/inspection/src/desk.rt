@@ -1,9 +1,10 @@
 //! The desk of a server that leads.
-ghost use Rattle.std.specs.Prelude.{◌≡◌};
+ghost use Rattle.std.specs.Prelude.{◌≡◌, IfOk};
 ghost use Rattle.std.specs.List.{list_any};
 ghost use Rattle.cluster_model.specs.Words.{same_eval};
 ghost use Rattle.group_model.specs.Brokers.{task_of};
 ghost use Rattle.inspection.specs.Inner.Deliveries.{delivery_word};
+ghost use Rattle.inspection.specs.Inner.Desks.{IsBlockedReport, IsPlanReport};
 
 use crate::deliveries::{Deliveries, Sent, last_of};
 use eval_broker::Broker;
@@ -106,7 +107,9 @@ fn plans(alloc: Global, desk: &Desk) -> Result<Vec<PlanReport>, NoMemory> {
     Ok(reports)
 }
 
-fn plan(alloc: Global, queued: &QueuedPlan) -> Result<PlanReport, NoMemory> {
+fn plan(alloc: Global, queued: &QueuedPlan) -> Result<PlanReport, NoMemory>
+    ensures { IfOk result (IsPlanReport queued.now) }
+{
     let from = queued.from.number();
     Ok(PlanReport {
         evaluation: eval_text(alloc, &queued.plan.eval)?,
@@ -133,7 +136,9 @@ fn blocked(alloc: Global, desk: &Desk, state: &Cluster) -> Result<Vec<BlockedRep
     Ok(reports)
 }
 
-fn blocked_one(alloc: Global, row: &Evaluation, due: &[EvalId]) -> Result<BlockedReport, NoMemory> {
+fn blocked_one(alloc: Global, row: &Evaluation, due: &[EvalId]) -> Result<BlockedReport, NoMemory>
+    ensures { IfOk result (IsBlockedReport due.now row.now) }
+{
     Ok(BlockedReport {
         evaluation: eval_text(alloc, &row.id)?,
         snapshot: row.snapshot.get(),
