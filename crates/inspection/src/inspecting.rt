@@ -1,7 +1,7 @@
 //! How a group stands after some of a run's events.
-ghost use Rattle.std.specs.Prelude.{◌≡◌, ◌≢◌, ◌<◌, ◌≤◌, length, IfErr, IfOk, OnOk};
+ghost use Rattle.std.specs.Prelude.{◌≡◌, ◌≢◌, ◌<◌, ◌≤◌, ◌∷◌, ℕ, List, [], length, IfErr, IfOk, OnOk, map, string_bytes};
 ghost use Rattle.labels.specs.Groups.{MayBe, MayNotBe};
-ghost use Rattle.inspection.specs.Told.{GrowsByLines};
+ghost use Rattle.inspection.specs.Told.{AreStanding, GrowsByStanding};
 ghost use Rattle.inspection.specs.declared.fault.InspectError.TheVariants as errors;
 
 use crate::fault::InspectError;
@@ -48,7 +48,8 @@ pub fn inspect<W: Write>(
     ensures fault { IfErr result (λ error. error ≢ errors.Group → error ≢ errors.NoSuchEvent
         → MayBe servers nodes.now) }
     ensures no_group { IfErr result (λ error. error ≡ errors.Group → MayNotBe servers nodes.now) }
-    ensures lines { OnOk result (GrowsByLines (W.contents out.old) (W.contents out.new)) }
+    ensures lines { OnOk result (GrowsByStanding form after (length events.now)
+        (W.contents out.old) (W.contents out.new)) }
     ensures left { IfErr result (λ error. error ≢ errors.Output → out.new ≡ out.old) }
 {
     if events.len() < after {
@@ -67,7 +68,8 @@ fn inspected(
     all: usize,
     form: Form,
 ) -> Result<Vec<String>, NoMemory>
-    ensures { IfOk result (λ lines. 0 < length lines.items) }
+    ensures { IfOk result (λ lines.
+        AreStanding form (length events.now) all (map string_bytes lines.items)) }
 {
     let mut world = world;
     for event in events {
@@ -81,7 +83,8 @@ fn inspected(
 }
 
 fn json_lines(alloc: Global, report: &Report) -> Result<Vec<String>, NoMemory>
-    ensures { IfOk result (λ lines. length lines.items ≡ 1) }
+    ensures { IfOk result (λ lines.
+        (line : List ℕ) × (map string_bytes lines.items ≡ line ∷ [])) }
 {
     let mut lines = Vec::new(alloc);
     match serde_json::to_string(alloc, report) {

@@ -1,5 +1,5 @@
 //! A report as lines of text.
-ghost use Rattle.std.specs.Prelude.{◌≡◌, ◌<◌, ◌≤◌, IfOk, OnOk, length, string_bytes};
+ghost use Rattle.std.specs.Prelude.{◌≡◌, ◌∷◌, ◌≤◌, ℕ, List, IfOk, OnOk, length, map, string_bytes};
 ghost use Rattle.report_lines.specs.Heads.{head_line};
 
 use crate::entries::entries_table;
@@ -18,10 +18,18 @@ use std::alloc::Global;
 /// The lines of a report: one that says after how many events, and behind an empty line each a table
 /// of the servers, of their entries, of each desk, of the clients and of each state.
 pub fn report_lines(alloc: Global, report: &Report) -> Result<Vec<String>, NoMemory>
-    ensures { IfOk result (λ lines. 0 < length lines.items) }
+    ensures { IfOk result (λ lines. (others : List (List ℕ)) × (map string_bytes lines.items
+        ≡ head_line report.now.after report.now.events report.now.messages ∷ others)) }
 {
+    let head = head_line(alloc, report.after, report.events, report.messages)?;
+    let mut lines = parts_lines(alloc, report)?;
+    lines.insert(0, head)?;
+    Ok(lines)
+}
+
+// The lines behind the first one.
+fn parts_lines(alloc: Global, report: &Report) -> Result<Vec<String>, NoMemory> {
     let mut lines = Vec::new(alloc);
-    lines.push(head_line(alloc, report.after, report.events, report.messages)?)?;
     put_table(alloc, &mut lines, servers_table(alloc, &report.servers))?;
     put_table(alloc, &mut lines, entries_table(alloc, &report.servers))?;
     for desk in &report.desks {

@@ -10,7 +10,9 @@ use Rattle.event_texts.specs.declared.transcript.Transcript.{Transcript}
 use Rattle.transcript.specs.Records.{record_of}
 use Rattle.runner.specs.Pages.{GrowsByPage}
 use Rattle.picture.specs.Pictures.{GrowsByPicture}
-use Rattle.inspection.specs.Told.{GrowsByLines}
+use Rattle.inspection.specs.declared.inspecting.Form.{Form}
+use Rattle.inspection.specs.declared.inspecting.Form.TheVariants as forms
+use Rattle.inspection.specs.Told.{GrowsByStanding}
 use Rattle.telling.specs.Told.{GrowsByEventLines}
 pub use Rattle.command_line.specs.Words.{AskFor, AskForThreads, words_fault}
 use Rattle.command_line.specs.declared.command.CommandLine.{CommandLine}
@@ -84,14 +86,19 @@ abbrev pub IsAfter : Option (List ℕ) → ℕ → ℕ → Type 0
 IsAfter None all after = after ≡ all
 IsAfter (Some word) all after = (word ≡ decimal after) × (after ≤ all)
 
+-- the form that is wanted where JSON is wanted or not
+abbrev pub form_in : Bool → Form
+form_in true = forms.Json
+form_in false = forms.Text
+
 -- it was told how a transcript's group stands: that of the file, where its bytes are known, after as
 -- many of its events as were asked for
-pub record TellsStanding (file at : Option (List ℕ)) (status : ℕ) (old new : Option (List ℕ)) : Type 0 where
+pub record TellsStanding (file at : Option (List ℕ)) (json : Bool) (status : ℕ) (old new : Option (List ℕ)) : Type 0 where
   pub recorded : Recorded
   pub read : IfSome file (IsTranscript recorded)
   pub after : ℕ
   pub asked : IsAfter at (length recorded.events) after
-  pub lines : GrowsByLines old new
+  pub lines : GrowsByStanding (form_in json) after (length recorded.events) old new
   pub taken : status ≡ 0
 
 -- ---- short scenarios
@@ -150,7 +157,7 @@ Tells before after (Draw file html) status old new = TellsPicture file.now (befo
 Tells before after (Check file) status old new = TellsNotes (before file.now) status old new
 Tells before after (Tell file) status old new = TellsEach (before file.now) status old new
 Tells before after (Inspect file at json) status old new =
-    TellsStanding (before file.now) (option_map (λ k. k.now) at) status old new
+    TellsStanding (before file.now) (option_map (λ k. k.now) at) json status old new
 Tells before after (Expand file) status old new = TellsPlain (before file.now) status old new
 Tells before after (Sweep file words) status old new = TellsSweep (before file.now) words status old new
 

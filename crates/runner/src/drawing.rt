@@ -1,9 +1,10 @@
 //! A transcript's file, drawn.
-ghost use Rattle.std.specs.Prelude.{◌≡◌, ◌≢◌, ◌⊎◌, IfErr, IfOk, OnOk, length};
+ghost use Rattle.std.specs.Prelude.{◌≡◌, ◌≢◌, ◌⊎◌, IfErr, IfOk, OnOk, length, map, string_bytes};
 ghost use Rattle.runner.specs.Pages.{GrowsByPage};
 ghost use Rattle.picture.specs.Pictures.{GrowsByPicture};
 ghost use Rattle.file_runs.specs.declared.fault.Fault.TheVariants as faults;
 ghost use Rattle.file_runs.specs.Faults.{IsOfRun, IsPastReading, MayStopPrinting};
+ghost use Rattle.telling.specs.Told.{AreEventLines};
 ghost use Rattle.runner.specs.Inner.Faults.{drawing_fault};
 ghost use Rattle.runner.specs.Told.{ShowsRun, TellsPicture};
 
@@ -105,8 +106,8 @@ fn print_picture<'a, W: Write>(
 
 // The line that is told of each event.
 fn told_of<'a>(alloc: Global, transcript: &Transcript) -> Result<Vec<String>, Fault<'a>>
-    ensures lines { IfOk result (λ lines.
-        length lines.items ≡ length transcript.now.events.items) }
+    ensures lines { IfOk result (λ lines. AreEventLines transcript.now.servers
+        transcript.now.nodes.items transcript.now.events.items (map string_bytes lines.items)) }
     ensures fault { IfErr result MayStopPrinting }
     ensures of_run { IfErr result IsOfRun }
 {

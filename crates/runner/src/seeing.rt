@@ -1,12 +1,12 @@
 //! A transcript's file, told event by event, or how its group stands after some of them.
 ghost use Rattle.std.specs.Prelude.{◌≡◌, ◌≢◌, ◌⊎◌, ℕ, IfErr, IfNone, IfOk, IfSome, OnOk, length, option_map};
-ghost use Rattle.inspection.specs.Told.{GrowsByLines};
+ghost use Rattle.inspection.specs.Told.{GrowsByStanding};
 ghost use Rattle.telling.specs.Told.{GrowsByEventLines};
 ghost use Rattle.playback.specs.declared.fault.PlaybackError.TheVariants as stops;
 ghost use Rattle.file_runs.specs.declared.fault.Fault.TheVariants as faults;
 ghost use Rattle.file_runs.specs.Faults.{IsOfRun, IsPastReading};
-ghost use Rattle.runner.specs.Inner.Faults.{form_in, seeing_fault};
-ghost use Rattle.runner.specs.Told.{IsAfter, TellsEach, TellsStanding};
+ghost use Rattle.runner.specs.Inner.Faults.{seeing_fault};
+ghost use Rattle.runner.specs.Told.{IsAfter, TellsEach, TellsStanding, form_in};
 
 use event_texts::read_number;
 use file_runs::fault::Fault;
@@ -52,7 +52,7 @@ pub(crate) fn inspect_file<'a, F: Shelf, W: Write>(
 ) -> Result<u8, Fault<'a>>
     ensures status { IfOk result (λ status. status ≡ 0) }
     ensures told { IfOk result (λ status. TellsStanding (F.file shelf.old file.entry.now)
-        (option_map (λ k. k.now) at.entry) status (W.contents out.old) (W.contents out.new)) }
+        (option_map (λ k. k.now) at.entry) json status (W.contents out.old) (W.contents out.new)) }
     ensures unsaid { IfErr result (λ fault. (out.new ≡ out.old) ⊎ IsPastReading fault) }
     ensures left { IfErr result (λ fault. fault ≢ faults.Output → out.new ≡ out.old) }
     ensures of_run { IfErr result IsOfRun }
@@ -117,7 +117,8 @@ fn print_standing<'a, W: Write>(
     form: Form,
     out: &mut W,
 ) -> Result<(), Fault<'a>>
-    ensures lines { OnOk result (GrowsByLines (W.contents out.old) (W.contents out.new)) }
+    ensures lines { OnOk result (GrowsByStanding form after
+        (length transcript.now.events.items) (W.contents out.old) (W.contents out.new)) }
     ensures left { IfErr result (λ fault. fault ≢ faults.Output → out.new ≡ out.old) }
     ensures of_run { IfErr result IsOfRun }
     ensures past { IfErr result IsPastReading }

@@ -1,6 +1,6 @@
 -- What a run may end by: for the words of its command line, for a short scenario, and for how many
 -- messages are to be lost and repeated.
-use Rattle.std.specs.Prelude.{◌≡◌, ◌⊎◌, ◌+◌, ◌<◌, ℕ, Bool, true, false, List, IsUtf8, map, ⊤}
+use Rattle.std.specs.Prelude.{◌≡◌, ◌⊎◌, ◌+◌, ◌<◌, ℕ, List, IsUtf8, map, ⊤}
 use Rattle.clap.specs.Words.{IsAmong, Kinds, kind_of}
 use Rattle.rows.specs.declared.refusal.Refusal.{Refusal}
 use Rattle.rows.specs.declared.refusal.Refusal.TheVariants as refusals
@@ -16,8 +16,6 @@ use Rattle.picture.specs.declared.fault.DrawError.{DrawError}
 use Rattle.picture.specs.declared.fault.DrawError.TheVariants as drawings
 use Rattle.inspection.specs.declared.fault.InspectError.{InspectError}
 use Rattle.inspection.specs.declared.fault.InspectError.TheVariants as looks
-use Rattle.inspection.specs.declared.inspecting.Form.{Form}
-use Rattle.inspection.specs.declared.inspecting.Form.TheVariants as forms
 use Rattle.runner.specs.Expansions.{TakesLines}
 
 -- a fault of the words is one of those found in them
@@ -75,8 +73,3 @@ seeing_fault looks.Output events = Output
 seeing_fault looks.NoSuchEvent events = NoSuchEvent events
 seeing_fault looks.NoMemory events = NoMemory
 seeing_fault looks.Group events = NoMemory
-
--- the form that is wanted where JSON is wanted or not
-abbrev pub form_in : Bool → Form
-form_in true = forms.Json
-form_in false = forms.Text
