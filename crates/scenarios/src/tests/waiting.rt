@@ -20,7 +20,7 @@ use std::thread::Threads;
 use world::World;
 
 /// How many rounds are waited for anything.
-const ROUNDS: u32 = 10_000;
+const ROUNDS: u32 = 2_000;
 
 /// The second evaluation comes to server 2, which crashes and starts again.
 const CRASH: &[&str] = &["take 2 1", "crash 2", "restart 2"];
