@@ -8,7 +8,6 @@ use Rattle.std.specs.Path.{path_file_name}
 use Rattle.serde.specs.Event.{InSeq, Log, Sends, Then, WritesSeq, text, unsigned}
 use Rattle.serde_json.specs.Sent.{IsTextOf}
 use Rattle.picture.specs.Pictures.{IsRunPicture, shown_byte}
-use Rattle.report_lines.specs.Changes.{AreMoments}
 use Rattle.report_lines.specs.declared.changes.Change.{Change}
 use Rattle.report_lines.specs.declared.moments.Moments.{Moments}
 use Rattle.runner.specs.declared.frame.TheConstants.{FRONT, STYLE, MIDDLE, BACK}
@@ -65,15 +64,13 @@ framed name picture json =
     ++ BACK.now
 
 -- A page of a run of so many servers, clients and events, from the file at a path: its picture, and
--- the JSON of what is told before the first event and behind each. Whoever goes by that JSON never
--- asks for a line that there is not.
+-- the JSON of what is told before the first event and behind each
 pub record IsPage (path : List ℕ) (servers clients events : ℕ) (text : List ℕ) : Type 0 where
   pub picture : List ℕ
   pub json : List ℕ
   pub moments : Moments
   pub drawn : IsRunPicture servers clients events picture
   pub told : IsMoments moments json
-  pub good : AreMoments (length moments.lines.items) moments.moments.items
   pub many : length moments.moments.items ≡ events + 1
   pub whole : text ≡ framed (name_at path) picture json
 

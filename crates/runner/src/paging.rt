@@ -3,7 +3,6 @@ ghost use Rattle.std.specs.Prelude.{◌≡◌, ◌≢◌, ◌+◌, length, IfErr
 ghost use Rattle.std.specs.Io.KnownBytes.{Appends};
 ghost use Rattle.labels.specs.Groups.{MayBe, MayNotBe};
 ghost use Rattle.picture.specs.declared.fault.DrawError.TheVariants as errors;
-ghost use Rattle.report_lines.specs.Changes.{AreMoments};
 ghost use Rattle.runner.specs.Pages.{IsLinesJson, IsChangesJson, GrowsByPage, IsMoments, IsPage, framed, name_at};
 
 use crate::frame::{BACK, CLOSED, FRONT, MIDDLE, OPENED, STYLE};
@@ -124,7 +123,6 @@ fn moments_of(
     events: &[Event],
 ) -> Result<Moments, DrawError>
     ensures moments { IfOk result (λ m. length m.moments.items ≡ length events.now + 1) }
-    ensures good { IfOk result (λ m. AreMoments (length m.lines.items) m.moments.items) }
     ensures fault { IfErr result (λ error. error ≢ errors.Group → MayBe servers nodes.now) }
     ensures no_group { IfErr result (λ error. error ≡ errors.Group → MayNotBe servers nodes.now) }
     ensures written { IfErr result (λ error. error ≢ errors.Output) }

@@ -1,7 +1,8 @@
 //! How an actor stands, and what an event changed of that.
-ghost use Rattle.std.specs.Prelude.{◌≡◌, IfOk, OnOk, string_bytes};
+ghost use Rattle.std.specs.Prelude.{◌≡◌, IfOk, OnOk, Some, slice_get, string_bytes};
 ghost use Rattle.telling.specs.Words.{with_word};
-ghost use Rattle.telling.specs.Standings.{standing_in, server_standing, client_standing, leads, same_role};
+ghost use Rattle.telling.specs.Standings.{standing_in, server_there, client_there, server_standing, client_standing, leads, same_role};
+ghost use Rattle.world.specs.GroupView.{client_view};
 ghost use Rattle.telling.specs.StandingWords.{change_words, with_server, with_role, with_doing, with_term, with_log, with_commit, with_client, with_up, with_seen};
 ghost use Rattle.telling.specs.declared.standing.Standing.TheVariants as standings;
 
@@ -9,7 +10,7 @@ use crate::words::part;
 use client_agent::Agent;
 use labels::role_word;
 use raft_core::Role;
-use rows::{Actor, NoMemory};
+use rows::{Actor, ClientId, NoMemory, ServerId};
 use server::Server;
 use std::alloc::Global;
 use world::World;
@@ -53,14 +54,34 @@ impl Standing {
         ensures { result ≡ standing_in world.now actor }
     {
         match actor {
-            Some(Actor::Server(id)) => match world.server(id) {
-                Some(server) => Standing::of_server(server),
-                None => Standing::None,
-            },
-            Some(Actor::Client(id)) => match world.client(id) {
-                Some(client) => Standing::of_client(client),
-                None => Standing::None,
-            },
+            Some(actor) => Standing::of_actor(world, actor),
+            None => Standing::None,
+        }
+    }
+
+    fn of_actor(world: &World, actor: Actor) -> Standing
+        ensures { result ≡ standing_in world.now (Some actor) }
+    {
+        match actor {
+            Actor::Server(id) => Standing::of_server_at(world, id),
+            Actor::Client(id) => Standing::of_client_at(world, id),
+        }
+    }
+
+    fn of_server_at(world: &World, id: ServerId) -> Standing
+        ensures { result ≡ server_there (slice_get world.now.servers id) }
+    {
+        match world.server(id) {
+            Some(server) => Standing::of_server(server),
+            None => Standing::None,
+        }
+    }
+
+    fn of_client_at(world: &World, id: ClientId) -> Standing
+        ensures { result ≡ client_there (client_view world.now.clients id) }
+    {
+        match world.client(id) {
+            Some(client) => Standing::of_client(client),
             None => Standing::None,
         }
     }
