@@ -14,3 +14,6 @@ go-requires-in-Beat-clause-steps c = All-cons IsStepLine _ [] c.in_ok-beat_line-
 
 pub go-requires-in-Take-clause-steps : goal.go-requires-in-Take-clause-steps
 go-requires-in-Take-clause-steps c = All-cons IsStepLine _ [] c.in_ok-take_line-in-Take.ensures (All-nil IsStepLine)
+
+pub go-requires-in-Pull-clause-steps : goal.go-requires-in-Pull-clause-steps
+go-requires-in-Pull-clause-steps c = rw c.deref.ensures.value c.in_ok-lines-in-Pull.ensures.steps
