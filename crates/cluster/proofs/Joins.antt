@@ -1,5 +1,5 @@
 -- The world that the cells of a closed book come to.
-use Rattle.std.proofs.Common.{◌≡◌, ℕ, zero, suc, ◌+◌, ◌<◌, ◌||◌, Bool, true, false, true≢false, Option, Some, List, [], ◌∷◌, map, length, take, refl, sym, ap, ◌∙◌, subst, arith, slice_get}
+use Rattle.std.proofs.Common.{◌≡◌, ℕ, zero, suc, ◌+◌, ◌<◌, ◌||◌, Bool, true, false, true≢false, Option, Some, List, [], ◌∷◌, ◌++◌, map, length, take, refl, sym, ap, ◌∙◌, subst, arith, slice_get}
 use Rattle.std.proofs.lemmas.Option.{same_Some, none-some, slice_get_within}
 use Rattle.std.specs.List.{AllByRecursion}
 use Rattle.rows.specs.declared.actor.Actor.{Actor}
@@ -8,11 +8,15 @@ use Rattle.rows.specs.declared.node.NodeSpec.{NodeSpec}
 use Rattle.group_model.specs.Agents.{Agent, agent_of}
 use Rattle.group_model.specs.Servers.{Server}
 use Rattle.group_model.specs.Worlds.{World, Event, first, agents_from, client_at}
-use Rattle.group_safety.proofs.Lists.{get_map, map_get, map_length}
+use Rattle.group_safety.proofs.Lists.{get_map, map_append, map_get, map_length}
 use Rattle.client_agent.specs.AgentView.{AgentView}
 use Rattle.server.specs.ServerViews.{ServerView, IsServer}
+use Rattle.spec.specs.Visible.{Visible}
+use Rattle.spec.specs.Refinement.{started_by, state_shown, visible_in}
 use Rattle.world.specs.GroupView.{GroupView, RepresentsGroup, ClientsKnowNumbers, nodes_of, node_in, client_in, client_view, renumbered}
+use Rattle.world.specs.GroupShown.{HasShown, ShownBySpec}
 use Rattle.world.proofs.GroupClients.{node_of, nodes_stay}
+use Rattle.world.proofs.GroupReplays.{run_length}
 use Rattle.world.proofs.Zips.{zip_length, zip_from}
 use Rattle.event_book.specs.Actors.{same_actor, lists_actor}
 use Rattle.event_book.specs.declared.view.Note.{Note}
@@ -24,10 +28,10 @@ use Rattle.cluster.specs.declared.closing.NamedActor.{NamedActor}
 use Rattle.cells.specs.Actors.{BeginsAs, HasNode, IsNewActor, group_size}
 use Rattle.cells.specs.Cells.{CellView, IsOpenedCell}
 use Rattle.cells.specs.Groups.{AreOfGroup, cell_actors}
-use Rattle.cluster.specs.Closing.{ShowsActor, HasCell, ClosesTo, noted_events}
+use Rattle.cluster.specs.Closing.{ShowsActor, HasCell, ClosesTo, IsSeen, ShowsAtLast, noted_events}
 use Rattle.cluster.specs.Inner.Closed.{IsClosed, named_in}
 use Rattle.cluster.specs.Inner.Joined.{agent_named, IsAmong, HasClients, AreNodesOf}
-use Rattle.cluster.specs.Inner.Runs.{EventsLead, GroupLeads, RepresentsLast}
+use Rattle.cluster.specs.Inner.Runs.{EventsLead, GroupLeads, RunsToLast}
 use Rattle.cluster.proofs.CellWorlds.{CellWorld}
 use Rattle.cluster.proofs.Merge.{same_actor-true}
 use Rattle.cluster.proofs.Closes.{ClosedRun, closes}
@@ -318,6 +322,26 @@ agent_is a b e = cc
 server_is : (v x : ServerView) → group_actors.Server v ≡ group_actors.Server x → v ≡ x
 server_is v x e = cc
 
+-- ---- the actors of the cells are seen
+
+module _ (c : CellWorld) (w : World) (st : Stands c w) where
+  is_seen : (a : Actor) (s : GroupActor) → c.at a ≡ Some s → IsSeen (visible_in w) a s
+  is_seen (actors.Server i) (group_actors.Server v) at =
+      let q = is_server c w st i (group_actors.Server v) at in
+      let same = sym (server_is v q.view q.is) in (
+        q.server,
+        subst (λ y. IsServer y q.server) same q.represents,
+        get_map state_shown w.servers i q.server q.there,
+      )
+  is_seen (actors.Server i) (group_actors.Client a) at = let q = is_server c w st i (group_actors.Client a) at in absurd (cc)
+  is_seen (actors.Client k) (group_actors.Server v) at = let q = is_client c w st k (group_actors.Server v) at in absurd (cc)
+  is_seen (actors.Client zero) (group_actors.Client a) at =
+      let q = is_client c w st 0 (group_actors.Client a) at in absurd (none-some q.client q.there)
+  is_seen (actors.Client (suc k)) (group_actors.Client a) at =
+      let q = is_client c w st (suc k) (group_actors.Client a) at in
+      get_map started_by w.clients k q.client q.there
+      ∙ ap (λ (b : AgentView). Some b.client.started) (sym (agent_is a _ q.is))
+
 -- ---- the world has the actors of the cells
 
 module _ (view : GroupView) (c : CellWorld) (w : World) (st : Stands c w)
@@ -397,9 +421,10 @@ module _ (n m : ℕ) (given : List NodeSpec) (all : List Actor) (log : List (Not
     -- a value that played what the cells noted is the world that they close to
     pub closes_to : (view : GroupView) → view.trace ≡ noted_events log log → length view.servers ≡ n →
         nodes_of view ≡ renumbered 1 nodes → ClientsKnowNumbers view →
-        RepresentsLast n nodes (noted_events log log) view → ClosesTo all cells view
+        RunsToLast n nodes (noted_events log log) view → ClosesTo all cells view
     closes_to view trace count nodes_is places last =
-        let rep = last at.world group_leads in
+        let ends = last at.world group_leads in
+        let rep = ends.1.represents in
         let clients : length view.clients ≡ m =
         sym (map_length node_in view.clients) ∙ ap length nodes_is ∙ renumbered_length 1 nodes
         ∙ are.count in
@@ -416,4 +441,32 @@ module _ (n m : ℕ) (given : List NodeSpec) (all : List Actor) (log : List (Not
           each = closed.all;
           apart = closed.apart;
           within = closed.within;
+        }
+
+    -- and at the end of its run the cells' actors are seen
+    pub shows_at_last : (view : GroupView) → RunsToLast n nodes (noted_events log log) view →
+        ShownBySpec view → ShowsAtLast cells view
+    shows_at_last view ends spec =
+        let q = ends at.world group_leads in
+        let run = q.1.run in
+        let before : List Visible = map visible_in q.0 in
+        let has : HasShown view (before ++ visible_in at.world ∷ []) =
+        record {
+          past = q.0;
+          world = at.world;
+          run = run;
+          is = sym (map_append visible_in q.0 (at.world ∷ []));
+        } in
+        let shown = spec (before ++ visible_in at.world ∷ []) has in
+        record {
+          before = before;
+          now = visible_in at.world;
+          last = shown.0;
+          behavior = shown.1;
+          moments = map_length visible_in q.0
+              ∙ run_length (length view.servers) (nodes_of view) view.trace q.0 at.world run;
+          each = all_map (λ (c : CellView). at.last.at c.seat.actor ≡ Some c.actor)
+              (λ (c : CellView). IsSeen (visible_in at.world) c.seat.actor c.actor) cells
+              (λ c end. is_seen at.last at.world at.stands c.seat.actor c.actor end) at.ends;
+          has = has;
         }

@@ -3,10 +3,10 @@ use Rattle.std.proofs.Common.{◌≡◌, ℕ, Ok, Err, List, [], ◌∷◌, ◌+
 use Rattle.rows.specs.declared.node.NodeSpec.{NodeSpec}
 use Rattle.rows.specs.declared.refusal.Refusal.{Refusal}
 use Rattle.group_model.specs.Worlds.{World, Event, first, happens}
-use Rattle.world.specs.GroupView.{GroupView, RepresentsGroup, nodes_of}
+use Rattle.world.specs.GroupView.{GroupView, GroupRunsTo, nodes_of}
 use Rattle.world.specs.GroupSteps.{IsNewGroup, GroupEventHappened, RefusesGroupEvent}
 use Rattle.world.proofs.GroupBegins.{new_group_runs}
-use Rattle.cluster.specs.Inner.Runs.{EventsLead, AllHappen, CanHappen, RepresentsLast, IsReplayed}
+use Rattle.cluster.specs.Inner.Runs.{EventsLead, AllHappen, CanHappen, RunsToLast, IsReplayed}
 
 -- an event that can happen is not refused
 pub not_refused : (view : GroupView) (e : Event) (r : Refusal) → CanHappen view e →
@@ -69,7 +69,9 @@ module _ (n : ℕ) (nodes : List NodeSpec) (all : List Event) where
       }
 
   pub replay_ends : (done left : List Event) (view : GroupView) → left ≡ [] →
-      IsReplayed n nodes all done left view → RepresentsLast n nodes all view
-  replay_ends done left view is r = λ end leads.
-      subst (λ (w : World). RepresentsGroup view w)
-      (subst (λ (l : List Event). EventsLead r.world l end) is (r.each end leads)) r.runs.represents
+      IsReplayed n nodes all done left view → RunsToLast n nodes all view
+  replay_ends done left view is r = λ end leads. (
+    r.past,
+    subst (λ (w : World). GroupRunsTo view r.past w)
+        (subst (λ (l : List Event). EventsLead r.world l end) is (r.each end leads)) r.runs,
+  )

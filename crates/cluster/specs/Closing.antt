@@ -1,5 +1,5 @@
 -- What is known of a group of cells that is closed.
-use Rattle.std.specs.Prelude.{◌≡◌, ℕ, suc, ◌+◌, zero, true, List, [], ◌∷◌, map, length, slice_get, Some}
+use Rattle.std.specs.Prelude.{◌≡◌, ℕ, suc, ◌+◌, zero, true, List, [], ◌∷◌, ◌++◌, map, length, slice_get, Some}
 use Rattle.std.specs.List.{AllByRecursion}
 use Rattle.rows.specs.declared.actor.Actor.{Actor}
 use Rattle.rows.specs.declared.actor.Actor.TheVariants as actors
@@ -8,7 +8,11 @@ use Rattle.group_model.specs.Agents as agents
 use Rattle.group_model.specs.Servers.{Server}
 use Rattle.group_model.specs.Worlds.{Event, Deliver, AtServer, AtClient}
 use Rattle.server.specs.ServerViews.{ServerView, IsServer}
+use Rattle.spec.specs.Spec.{SpecState}
+use Rattle.spec.specs.Visible.{Visible, Behavior}
+use Rattle.spec.specs.Refinement.{state_shown}
 use Rattle.world.specs.GroupView.{GroupView, client_view}
+use Rattle.world.specs.GroupShown.{HasShown}
 use Rattle.event_book.specs.declared.view.EventView.{EventView}
 use Rattle.event_book.specs.declared.view.EventView.TheVariants.{Own, Delivery, Crash}
 use Rattle.event_book.specs.declared.view.Note.{Note}
@@ -68,3 +72,27 @@ pub record ClosesTo (all : List Actor) (cells : List CellView) (view : GroupView
   pub each : (a : Actor) → lists_actor all a ≡ true → lists_actor (cell_actors cells) a ≡ true
   pub apart : are_apart (cell_actors cells) ≡ true
   pub within : (a : Actor) → lists_actor (cell_actors cells) a ≡ true → lists_actor all a ≡ true
+
+-- ---- what the cells show
+
+-- At this moment of the specification the actor is seen: of a server the state that it has applied,
+-- none while it is down; of a client what it ever started.
+abbrev pub IsSeen : Visible → Actor → GroupActor → Type 0
+IsSeen now (actors.Server i) (group_actors.Server v) =
+    (s : Server) × IsServer v s × (slice_get now.states i ≡ Some (state_shown s))
+IsSeen now (actors.Server i) (group_actors.Client a) = ⊥
+IsSeen now (actors.Client c) (group_actors.Server v) = ⊥
+IsSeen now (actors.Client zero) (group_actors.Client a) = ⊥
+IsSeen now (actors.Client (suc k)) (group_actors.Client a) =
+    slice_get now.started k ≡ Some a.client.started
+
+-- The specification shows so many moments as events were noted, after a first one, and at the last
+-- of them each cell's actor is seen as it is. The world has shown just these, and goes on from there.
+pub record ShowsAtLast (cells : List CellView) (view : GroupView) : Type 0 where
+  pub before : List Visible
+  pub now : Visible
+  pub last : SpecState
+  pub behavior : Behavior (length view.servers) (length view.clients) (before ++ now ∷ []) last
+  pub moments : length before ≡ length view.trace
+  pub each : AllByRecursion (λ (c : CellView). IsSeen now c.seat.actor c.actor) cells
+  pub has : HasShown view (before ++ now ∷ [])

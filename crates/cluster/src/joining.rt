@@ -4,7 +4,7 @@ ghost use Rattle.client_agent.specs.AgentView.{AgentView};
 ghost use Rattle.rows.specs.GroupSizes.{IsGroup};
 ghost use Rattle.world.specs.GroupView.{nodes_of, renumbered};
 ghost use Rattle.cells.specs.Groups.{AreOfGroup};
-ghost use Rattle.cluster.specs.Closing.{ClosesTo};
+ghost use Rattle.cluster.specs.Closing.{ClosesTo, ShowsAtLast};
 ghost use Rattle.cluster.specs.Inner.Joined.{agent_named, HasClient, HasClients, IsNodeOf, AreNodesOf};
 
 use crate::closing::{JoinedCells, NamedActor, history};
@@ -71,6 +71,8 @@ fn nodes_among(alloc: Global, m: usize, actors: &[NamedActor]) -> Result<Vec<Nod
 /// - `closes`: it is that world of these cells.
 /// - `nodes`: the nodes of its clients are those that the book's name has, the k-th client's the
 ///   k-th.
+/// - `shown`: the specification has a run at whose last moment each cell's actor is seen, and the
+///   world has shown just that run.
 pub fn close<B: BookId>(alloc: Global, cells: OwnedCells<B>) -> Result<World, NoMemory>
     requires count { length cells.cells.items ≡ length B.actors }
     requires size { IsGroup cells.servers }
@@ -78,6 +80,7 @@ pub fn close<B: BookId>(alloc: Global, cells: OwnedCells<B>) -> Result<World, No
     requires group { AreOfGroup cells.servers cells.clients B.actors }
     ensures closes { IfOk result (λ w. ClosesTo B.actors cells.cells.items w) }
     ensures nodes { IfOk result (λ w. nodes_of w ≡ renumbered 1 (take cells.clients B.nodes)) }
+    ensures shown { IfOk result (λ w. ShowsAtLast cells.cells.items w) }
 {
     // A frame that was sent is read as the message that it is.
     frames_are_whole::<Cluster>();

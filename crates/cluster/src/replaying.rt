@@ -4,7 +4,8 @@ ghost use Rattle.rows.specs.GroupSizes.{IsGroup};
 ghost use Rattle.group_inputs.specs.Events.{group_event, group_events};
 ghost use Rattle.world.specs.GroupView.{nodes_of, renumbered, ClientsKnowNumbers};
 ghost use Rattle.world.specs.GroupSteps.{IsNewGroup, GroupEventHappened};
-ghost use Rattle.cluster.specs.Inner.Runs.{AllHappen, CanHappen, RepresentsLast};
+ghost use Rattle.world.specs.GroupShown.{ShownBySpec};
+ghost use Rattle.cluster.specs.Inner.Runs.{AllHappen, CanHappen, RunsToLast};
 
 use group_inputs::Event;
 use rows::{NoMemory, NodeSpec, Refusal};
@@ -48,7 +49,8 @@ fn play(world: &mut World, event: Event) -> Result<(), NoMemory>
 /// - `trace`: the world's trace is these events, each once and in this order.
 /// - `size`, `nodes`, `clients`: it has this many servers, and a client for each node, which is
 ///   numbered by its place.
-/// - `last`: it represents the world of the definitions to which the events lead.
+/// - `last`: its run ends in the world of the definitions to which the events lead.
+/// - `spec`: whatever it has shown is what the specification shows.
 pub(crate) fn replay(
     alloc: Global,
     n: usize,
@@ -62,7 +64,8 @@ pub(crate) fn replay(
     ensures size { IfOk result (λ w. length w.servers ≡ n) }
     ensures nodes { IfOk result (λ w. nodes_of w ≡ renumbered 1 nodes.now) }
     ensures clients { IfOk result (λ w. ClientsKnowNumbers w) }
-    ensures last { IfOk result (λ w. RepresentsLast n nodes.now (group_events events.items) w) }
+    ensures last { IfOk result (λ w. RunsToLast n nodes.now (group_events events.items) w) }
+    ensures spec { IfOk result (λ w. ShownBySpec w) }
 {
     let mut world = begin(alloc, n, nodes)?;
     for event in events {
@@ -70,5 +73,6 @@ pub(crate) fn replay(
     }
     // The world knows of its clients where it is asked for them.
     let _ = world.clients();
+    world.shows_the_spec();
     Ok(world)
 }

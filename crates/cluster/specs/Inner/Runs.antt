@@ -2,7 +2,7 @@
 use Rattle.std.specs.Prelude.{◌≡◌, ℕ, Ok, List, [], ◌∷◌, length}
 use Rattle.rows.specs.declared.node.NodeSpec.{NodeSpec}
 use Rattle.group_model.specs.Worlds.{World, Event, first, happens}
-use Rattle.world.specs.GroupView.{GroupView, GroupRunsTo, RepresentsGroup, nodes_of, renumbered}
+use Rattle.world.specs.GroupView.{GroupView, GroupRunsTo, nodes_of, renumbered}
 
 module _ {W E : Type 0} where
   -- these events happen one after the other, from the first world to the second
@@ -29,10 +29,10 @@ CanHappen view e =
     (past : List World) × (w : World) × (next : World) × GroupRunsTo view past w
     × (happens w e ≡ Ok next)
 
--- it represents the world to which they lead
-abbrev pub RepresentsLast : ℕ → List NodeSpec → List Event → GroupView → Type 0
-RepresentsLast n nodes events view =
-    (last : World) → GroupLeads n nodes events last → RepresentsGroup view last
+-- its run ends in the world to which they lead
+abbrev pub RunsToLast : ℕ → List NodeSpec → List Event → GroupView → Type 0
+RunsToLast n nodes events view =
+    (last : World) → GroupLeads n nodes events last → (past : List World) × GroupRunsTo view past last
 
 -- The value has played some of all events, and these are left: they lead on from its world, to
 -- wherever all of them lead from the beginning.
