@@ -1,3 +1,4 @@
 -- Words of private contracts.
+pub mod Taking
 pub mod Findings
 pub mod Deliveries

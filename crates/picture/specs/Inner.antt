@@ -7,4 +7,3 @@ pub mod Records
 pub mod Labels
 pub mod Drawn
 pub mod Rows
-pub mod Layouts

@@ -15,5 +15,4 @@ mod shape;
 mod svg;
 
 pub use drawing::{draw, picture};
-pub use escape::all_escaped;
 pub use fault::DrawError;

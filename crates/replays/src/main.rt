@@ -10,7 +10,6 @@ mod frames;
 mod group;
 mod lines;
 mod looks;
-mod moments;
 mod old;
 mod requests;
 mod said;
@@ -63,8 +62,7 @@ fn play_groups(rt: &HostRuntime) -> io::Result<()> {
     apart::servers(rt)?;
     old::starts(rt)?;
     crashes::crashes(rt)?;
-    looks::looks(rt)?;
-    moments::moments(rt)
+    looks::looks(rt)
 }
 
 fn main(rt: HostRuntime) -> io::Result<()> {

@@ -1,3 +1,1 @@
-pub mod Grids
-pub mod Heads
 pub mod Inner

@@ -5,7 +5,6 @@
 
 mod drawing;
 mod expanding;
-mod frame;
 mod paging;
 pub mod program;
 mod script;

@@ -12,5 +12,4 @@ mod running;
 mod servers;
 mod snapshots;
 mod starved;
-mod waiting;
 mod watching;

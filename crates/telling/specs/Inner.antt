@@ -1,3 +1,0 @@
--- Words of private contracts.
-pub mod Cells
-pub mod Newest
