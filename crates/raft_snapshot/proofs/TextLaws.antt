@@ -303,17 +303,3 @@ module _ {S C : Type 0} (m : Meaning S C) (law : LawfulMachine m) (bytes : List 
     snapshot_read so = snapshot_of m law f.index f.index_term state none_is_none (law.states_stay version state found_state.0) so
 
 -- ---- writing
-
--- behind the front comes the state, and that is the text
-pub written : {S C : Type 0} (m : Meaning S C) (s : Stored S C) (old middle new : List ℕ) (r : Result (Unit {0}) NoMemory)
-    → (front (m.commands newest)).Fits (parts_of s).0 → IsSnapshot m s.log.base → s.log ≡ kept m s.log.base (drop s.log.base.index s.log.entries)
-    → middle ≡ (old ++ spelled 1 newest) ++ (front (m.commands newest)).text (parts_of s).0 → Writes (m.states newest) s.log.base.state r middle new → OnOk r (StableFits m newest s × (new ≡ old ++ stable_text m newest s))
-written {S} {C} m s old middle new (Ok _) fits snapshot shows came state =
-    let with_log : _ → Stored S C = λ log. record { term = s.term; vote = s.vote; log = log } in
-    let first = spelled 1 newest in
-    let text = (front (m.commands newest)).text (parts_of s).0 in
-    let last = (m.states newest).text s.log.base.state in (
-      record { known = (omega arith, omega arith); fits = ((fits, state.0), ap (λ log. Some (with_log log)) (sym shows)); snapshot = snapshot },
-      state.1 ∙ ap (λ (l : List ℕ). l ++ last) came ∙ append_assoc (old ++ first) text last ∙ append_assoc old first (text ++ last),
-    )
-written m s old middle new (Err _) fits snapshot shows came state = tt
