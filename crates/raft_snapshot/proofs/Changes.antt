@@ -1,5 +1,5 @@
 -- A change leads from one stored part to another.
-use Rattle.std.proofs.Common.{◌≡◌, ◌∙◌, ℕ, ◌≤◌, List, ◌++◌, Some, None, Option, Bool, true, false, cond, leb, eqb, ◌&&◌, length, take, drop, ap, sym, refl, subst, arith, take-take}
+use Rattle.std.proofs.Common.{◌≡◌, ◌∙◌, ℕ, ◌≤◌, List, ◌++◌, Some, None, Bool, true, cond, leb, eqb, ◌&&◌, length, take, drop, ap, sym, refl, arith, take-take}
 use Rattle.std.proofs.lemmas.Bool.{le-leb, eq-eqb}
 use Rattle.std.proofs.lemmas.List.{take-append-drop}
 use Rattle.machine_model.specs.declared.entry.Entry.{Entry}

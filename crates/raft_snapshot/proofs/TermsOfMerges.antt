@@ -1,11 +1,11 @@
 -- Terms tell what of a log stays where a leader's entries are taken over.
-use Rattle.std.proofs.Common.{ℕ, zero, suc, ◌+◌, ◌<◌, ◌≤◌, ◌≡◌, ◌≢◌, List, [], ◌∷◌, ◌++◌, length, take, drop, refl, sym, ap, ◌∙◌, arith, inl, inr, take-take, subst, length-take-le, cond, Bool, true, false, ◌&&◌, ◌||◌, leb, eqb}
-use Rattle.std.proofs.lemmas.Bool.{leb-true, leb-false, eqb-true, eqb-false}
+use Rattle.std.proofs.Common.{ℕ, suc, ◌≤◌, ◌≡◌, ◌≢◌, List, [], ◌∷◌, ◌++◌, length, take, refl, sym, ◌∙◌, arith, inl, inr, take-take, subst, length-take-le, cond, Bool, true, false, ◌&&◌, ◌||◌, leb, eqb}
+use Rattle.std.proofs.lemmas.Bool.{leb-true, leb-false, eqb-false}
 use Rattle.std.proofs.lemmas.Bool.Decides.{leb_tells}
 use Rattle.std.proofs.lemmas.List.{take-append-le}
 use Rattle.machine_model.specs.declared.entry.Entry.{Entry}
 use Rattle.raft_model.specs.Logs.{term_at, merge}
-use Rattle.raft_snapshot.specs.Changes.{SameTerms, TermsTell}
+use Rattle.raft_snapshot.specs.Changes.{TermsTell}
 
 module _ {C : Type 0} where
   pub tells_same : (c : ℕ) (log : List (Entry C)) → TermsTell c log log

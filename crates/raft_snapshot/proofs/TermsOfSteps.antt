@@ -1,16 +1,16 @@
 -- Terms tell what of a server's log stays over one step that covers no more entries.
-use Rattle.std.proofs.Common.{ℕ, zero, suc, ◌+◌, ◌-◌, ◌<◌, ◌≤◌, ◌≡◌, ◌≢◌, List, [], ◌∷◌, ◌++◌, length, take, drop, refl, sym, ap, ◌∙◌, arith, inl, inr, subst, cond, Bool, true, false, ◌&&◌, ◌||◌, leb, ltb, eqb, Option, Some, None, Result, Ok, Err, max, min}
+use Rattle.std.proofs.Common.{ℕ, suc, ◌+◌, ◌-◌, ◌≤◌, ◌≡◌, List, [], ◌∷◌, ◌++◌, length, refl, sym, ap, ◌∙◌, arith, subst, cond, Bool, true, false, ◌&&◌, ◌||◌, leb, ltb, eqb, Option, Some, None, Result, Ok, Err, max, min}
 use Rattle.std.specs.Prelude.{◌==◌, slice_set}
-use Rattle.std.proofs.lemmas.Bool.{leb-true, leb-false, eqb-true, eqb-false}
+use Rattle.std.proofs.lemmas.Bool.{leb-true, leb-false}
 use Rattle.rows.specs.declared.refusal.Refusal.{Refusal}
 use Rattle.rows.specs.declared.refusal.Refusal.TheVariants as refusals
 use Rattle.machine_model.specs.Meaning.{Meaning}
 use Rattle.machine_model.specs.declared.entry.Entry.{Entry}
-use Rattle.raft_model.specs.Logs.{MAX, term_at, merge, install, has}
+use Rattle.raft_model.specs.Logs.{MAX, term_at, install}
 use Rattle.raft_model.specs.Messages.{Message, Body, to_others, VoteRequest, VoteReply, Append, AppendReply, Install, InstallReply}
 use Rattle.raft_model.specs.Quorums.{is_quorum, marked, index_at}
-use Rattle.raft_model.specs.Rafts.{Raft, RaftTurn, Mode, Down, Follower, Candidate, Leader, is_up, is_leader, silent, reply, met, stood, grants, granted, counted, with_votes, won, following, follows_append, is_held, appended, installed, hears_ok, hears_refusal, match_raised, backed_off, advanced, advanced_in, beats, vote_request_to, crashed, restarted, compacted, extended}
-use Rattle.raft_model.specs.Steps.{Input, Arrives, Timeout, Beat, Propose, Compact, Crash, Restart, receives, times_out, proposes, admission_refusal, unless, acts, wakes, step}
+use Rattle.raft_model.specs.Rafts.{Raft, RaftTurn, Mode, Down, Follower, Candidate, Leader, is_up, is_leader, silent, reply, met, stood, grants, granted, counted, won, following, follows_append, appended, installed, hears_ok, hears_refusal, match_raised, backed_off, advanced, advanced_in, beats, vote_request_to, crashed, restarted, compacted, extended}
+use Rattle.raft_model.specs.Steps.{Input, Arrives, Timeout, Beat, Propose, Compact, Crash, Restart, receives, admission_refusal, unless, acts, wakes, step}
 use Rattle.raft_snapshot.specs.Changes.{TermsTell}
 use Rattle.raft_snapshot.proofs.TermsOfMerges.{tells_same, tells_more, tells_merge}
 

@@ -2,7 +2,6 @@
 -- many entries stay and the last one's term, and those behind them. It is spelled as what stands in
 -- front of a state.
 use Rattle.std.specs.Prelude.{◌≡◌, ◌<◌, ◌≤◌, ℕ, ◌&&◌, ◌==◌, nat_le, Option, Some, None, List, ◌++◌, length, take, drop, if◌then◌else◌}
-use Rattle.machine_model.specs.Meaning.{Meaning}
 use Rattle.machine_model.specs.declared.entry.Entry.{Entry}
 use Rattle.raft_model.specs.Logs.{term_at}
 use Rattle.raft_snapshot.specs.Kept.{Kept}
