@@ -15,7 +15,7 @@ mod stop;
 mod storing;
 
 pub use actor::Actor;
-pub use host::{Host, OpenError};
+pub use host::{Host, MAGIC, OpenError};
 pub use items::{MOST_BYTES, item_of};
 pub use laws::{any_crash_is_read, journals_are_read};
 pub use outside::Outside;
