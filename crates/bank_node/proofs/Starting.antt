@@ -1,5 +1,5 @@
 -- The records of a journal, read one after the other.
-use Rattle.std.proofs.Common.{◌≡◌, ◌∙◌, ℕ, List, [], ◌∷◌, ◌++◌, Option, Some, None, Result, Ok, Err, drop, ap, sym, refl, append_assoc}
+use Rattle.std.proofs.Common.{◌≡◌, ◌∙◌, ℕ, inl, List, [], ◌∷◌, ◌++◌, Option, Some, None, Result, Ok, Err, IfOk, length, drop, ap, sym, refl, subst, append_assoc}
 use Rattle.std.specs.List.{flat_map, AllByRecursion}
 use Rattle.std.proofs.lemmas.List.{append-nil}
 use Rattle.std.proofs.lemmas.Grind.{flat_map-append}
@@ -12,7 +12,7 @@ use Rattle.journal.specs.Tails.{MayBeTorn}
 use Rattle.journal.proofs.RecordLaws.{record_lawful}
 use Rattle.bank_node.specs.Inner.Reading.{ReplaysUpTo}
 use Rattle.bank_node.specs.Records.{raft_replay}
-use Rattle.bank_node.specs.Starts.{ReplaysTo}
+use Rattle.bank_node.specs.Starts.{ReplaysTo, IsStored}
 
 all_push : {A : Type 0} (P : A → Type 0) (xs : List A) (x : A) → AllByRecursion P xs → P x → AllByRecursion P (xs ++ x ∷ [])
 all_push P [] x all p = (p, tt)
@@ -75,3 +75,10 @@ module _ {S C : Type 0} (m : Meaning S C) (bytes : List ℕ) (fits : IsBytes byt
     torn = torn;
     part_is = so.part_is;
   }
+
+-- the records of a store stand behind its header
+pub behind_header : {S C E : Type 0} (m : Meaning S C) (header bytes : List ℕ) (stored : Option (List ℕ)) (read : Result (Stored S C) E) → stored ≡ Some bytes
+    → bytes ≡ header ++ drop (length header) bytes → IfOk read (ReplaysTo m (drop (length header) bytes)) → IfOk read (IsStored m header stored)
+behind_header m header bytes stored (Err e) is split so = tt
+behind_header m header bytes stored (Ok part) is split so =
+    subst (λ (z : Option (List ℕ)). IsStored m header z part) (sym is) (inl (drop (length header) bytes, split, so))
