@@ -3,7 +3,7 @@ ghost use Rattle.std.specs.Prelude.{◌≡◌, ◌≤◌, ℕ, [], IfOk, OnOk, O
 ghost use Rattle.journal.specs.Histories.{GoesOnBy, GoesOnByFirst};
 ghost use Rattle.journal.specs.Items.{IsTooLong};
 ghost use Rattle.journal.specs.Savings.{storing, event_of};
-ghost use Rattle.journal.specs.Batches.{Stores};
+ghost use Rattle.journal.specs.Batches.{SavesBatch};
 ghost use Rattle.journal.specs.Inner.Rests.{NoItem, IsRest};
 ghost use Rattle.journal.specs.Inner.Taking.{TakenUpTo, TakesBatch, BatchStops};
 ghost use Rattle.journal.specs.declared.stop.Stop.TheVariants as stops;
@@ -50,7 +50,7 @@ fn stored_of<A: Actor, O: Outside>(
 ) -> Result<Stored, NoMemory>
     ensures { IfOk result (λ s. (first : A) →
         A.leads change.now (A.part first) (A.part actor.now) →
-        Stores A.replay A.part A.turn first actor.now (storing s)) }
+        SavesBatch A.replay A.part A.turn first actor.now (storing s)) }
 {
     let mut payload = Vec::new(alloc);
     match actor.save(change, &mut payload)? {

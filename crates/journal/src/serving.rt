@@ -1,9 +1,9 @@
 //! The loop of an actor's process.
 ghost use Rattle.std.specs.Prelude.{◌≡◌, ◌≤◌, ◌<◌, ◌∷◌, ◌++◌, [], ℕ, true, false, Some, List, Option, IfErr, IfOk, MatchBool, OnErr, OnOk, length, take};
-ghost use Rattle.journal.specs.Events.{IoEvent, Received, InputEnded, Replaced};
+ghost use Rattle.journal.specs.Events.{IoEvent, BytesCame, InputEnded, JournalReplaced};
 ghost use Rattle.journal.specs.Histories.{GoesOnBy, MayGoOnBy};
 ghost use Rattle.journal.specs.Items.{IsTooLong, IsPartOfItem};
-ghost use Rattle.journal.specs.Serving.{RunsToEnd, RunsTo, Stops};
+ghost use Rattle.journal.specs.Serving.{ProcessRunsToEnd, ProcessRunsTo, ProcessStops};
 ghost use Rattle.journal.specs.Inner.Coming.{CameTo};
 ghost use Rattle.journal.specs.Inner.Rests.{IsRest};
 ghost use Rattle.journal.specs.Inner.Starting.{StartStops, MayReceive};
@@ -23,7 +23,7 @@ const BUFFER_BYTES: usize = 65_536;
 fn start<A: Actor, O: Outside>(alloc: Global, actor: &A, outside: &mut O) -> Result<(), Stop>
     ensures ok { OnOk result ((payload : List ℕ)
         × (A.replay.whole payload ≡ Some (A.part actor.now))
-        × GoesOnBy (O.happened outside.old) (O.happened outside.new) (Replaced payload ∷ [])) }
+        × GoesOnBy (O.happened outside.old) (O.happened outside.new) (JournalReplaced payload ∷ [])) }
     ensures err { OnErr result (StartStops A.replay A.part actor.now
         (O.happened outside.old) (O.happened outside.new)) }
     ensures other { IfErr result (λ stop. (stop ≡ stops.Cut → ⊥)
@@ -46,7 +46,7 @@ fn read_some<O: Outside>(outside: &mut O, buffer: &mut [u8]) -> Result<usize, St
     ensures same { length buffer.new ≡ length buffer.old }
     ensures some { IfOk result (λ count. 0 < count →
         GoesOnBy (O.happened outside.old) (O.happened outside.new)
-        (Received (take count buffer.new) ∷ [])) }
+        (BytesCame (take count buffer.new) ∷ [])) }
     ensures none { IfOk result (λ count. count ≡ 0 →
         GoesOnBy (O.happened outside.old) (O.happened outside.new) (InputEnded ∷ [])) }
     ensures err { OnErr result
@@ -76,7 +76,7 @@ fn read_more<O: Outside>(
     ensures same { length buffer.new ≡ length buffer.old }
     ensures more { IfOk result (λ more. more ≡ true → (bytes : List ℕ)
         × (pending.new.items ≡ pending.old.items ++ bytes)
-        × GoesOnBy (O.happened outside.old) (O.happened outside.new) (Received bytes ∷ [])) }
+        × GoesOnBy (O.happened outside.old) (O.happened outside.new) (BytesCame bytes ∷ [])) }
     ensures none { IfOk result (λ more. more ≡ false →
         (pending.new.items ≡ pending.old.items)
         × GoesOnBy (O.happened outside.old) (O.happened outside.new) (InputEnded ∷ [])) }
@@ -127,22 +127,22 @@ fn read_batch<A: Actor, O: Outside>(
         (first : A) (did : Option (List IoEvent)) →
         CameTo A.replay A.part A.turn first pending.old.items actor.old did
         (O.happened outside.old) →
-        RunsToEnd A.replay A.part A.turn first actor.new did (O.happened outside.new)) }
+        ProcessRunsToEnd A.replay A.part A.turn first actor.new did (O.happened outside.new)) }
     ensures err { OnErr result ((first : A) (did : Option (List IoEvent)) →
         CameTo A.replay A.part A.turn first pending.old.items actor.old did
         (O.happened outside.old) →
-        Stops A.replay A.part A.turn first did (O.happened outside.new)) }
+        ProcessStops A.replay A.part A.turn first did (O.happened outside.new)) }
     ensures long { IfErr result (λ stop. (size : ℕ) → stop ≡ stops.TooLong size →
         (first : A) (did : Option (List IoEvent)) →
         CameTo A.replay A.part A.turn first pending.old.items actor.old did
         (O.happened outside.old) →
-        RunsTo A.replay A.part A.turn first actor.new did (O.happened outside.new) []
+        ProcessRunsTo A.replay A.part A.turn first actor.new did (O.happened outside.new) []
         (λ left. IsTooLong left size)) }
     ensures cut { IfErr result (λ stop. stop ≡ stops.Cut →
         (first : A) (did : Option (List IoEvent)) →
         CameTo A.replay A.part A.turn first pending.old.items actor.old did
         (O.happened outside.old) →
-        RunsTo A.replay A.part A.turn first actor.new did (O.happened outside.new)
+        ProcessRunsTo A.replay A.part A.turn first actor.new did (O.happened outside.new)
         (InputEnded ∷ []) IsPartOfItem) }
 {
     match read_more(outside, buffer.as_mut_slice(), pending) {
@@ -173,15 +173,15 @@ pub fn serve<A: Actor, O: Outside>(
     actor: &mut A,
     outside: &mut O,
 ) -> Result<(), Stop>
-    ensures ok { OnOk result (RunsToEnd A.replay A.part A.turn actor.old actor.new
+    ensures ok { OnOk result (ProcessRunsToEnd A.replay A.part A.turn actor.old actor.new
         (O.happened outside.old) (O.happened outside.new)) }
-    ensures err { OnErr result (Stops A.replay A.part A.turn actor.old
+    ensures err { OnErr result (ProcessStops A.replay A.part A.turn actor.old
         (O.happened outside.old) (O.happened outside.new)) }
     ensures long { IfErr result (λ stop. (size : ℕ) → stop ≡ stops.TooLong size →
-        RunsTo A.replay A.part A.turn actor.old actor.new
+        ProcessRunsTo A.replay A.part A.turn actor.old actor.new
         (O.happened outside.old) (O.happened outside.new) [] (λ left. IsTooLong left size)) }
     ensures cut { IfErr result (λ stop. stop ≡ stops.Cut →
-        RunsTo A.replay A.part A.turn actor.old actor.new
+        ProcessRunsTo A.replay A.part A.turn actor.old actor.new
         (O.happened outside.old) (O.happened outside.new) (InputEnded ∷ []) IsPartOfItem) }
 {
     match start(alloc, actor, outside) {

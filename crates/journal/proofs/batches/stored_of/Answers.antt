@@ -1,5 +1,5 @@
 use Rattle.std.proofs.Common.{◌≡◌, ◌∙◌, ◌++◌, ◌∷◌, [], Some, ap, refl, sym, subst}
-use Rattle.journal.specs.Events.{Replaced}
+use Rattle.journal.specs.Events.{JournalReplaced}
 use Rattle.journal.specs.Savings.{IsSaving}
 use Rattle.journal.specs.Batches.{appended, replaced}
 use Rattle.journal.proofs.batches.stored_of.Goals as goal
