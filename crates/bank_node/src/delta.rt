@@ -46,6 +46,7 @@ fn lower(one: Index, other: Index) -> Index
 }
 
 /// What two changes come to, one after the other.
+#[tactic(auto, using(crate::proofs::Deltas::joined_both))]
 pub fn joined<M: Machine>(one: LogDelta, next: LogDelta) -> LogDelta
     ensures { (first mid now : Stored M M.Command) → IsDelta one first mid → IsDelta next mid now →
         IsDelta result first now }
