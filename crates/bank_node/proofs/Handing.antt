@@ -131,14 +131,15 @@ module _ {S C : Type 0} (m : Meaning S C) (item : List ℕ) where
         → after ≡ before ++ Reported line ∷ [] → Made view view before after
     shown_made view line before after is shows put = (Reported line ∷ [], shown line is refl shows refl, put)
 
-    pub told_made : (view : RaftView S C) (text line word : List ℕ) (index term : ℕ) (standing : Option Standing) (before after : List IoEvent) → is_question item ≡ true → text ≡ drop 1 item
-        → whole ticket text ≡ Ok (index, term) → ((s : Raft C) → Represents m view s → standing ≡ standing_of s index term)
+    pub told_made : (view : RaftView S C) (text line word : List ℕ) (at : ℕ × ℕ) (index term : ℕ) (standing : Option Standing) (before after : List IoEvent) → is_question item ≡ true
+        → text ≡ drop 1 item → whole ticket text ≡ Ok at → index ≡ at.0 → term ≡ at.1 → ((s : Raft C) → Represents m view s → standing ≡ standing_of s at.0 at.1)
         → word ≡ standing_word standing → line ≡ standing_line index term word → after ≡ before ++ Reported line ∷ [] → Made view view before after
-    told_made view text line word index term standing before after is behind read stands word_is line_is put =
-        let here = subst (λ t. whole ticket t ≡ Ok (index, term)) behind read in
+    told_made view text line word at index term standing before after is behind read index_is term_is stands word_is line_is put =
+        let here = subst (λ t. whole ticket t ≡ Ok at) behind read in
+        let shown_is : line ≡ standing_line at.0 at.1 word = line_is ∙ ap (λ n. standing_line n term word) index_is ∙ ap (λ n. standing_line at.0 n word) term_is in
         (
           Reported line ∷ [],
-          told index term word is here refl (λ s r. word_is ∙ ap standing_word (stands s r)) (ap (λ l. Reported l ∷ []) line_is),
+          told at.0 at.1 word is here refl (λ s r. word_is ∙ ap standing_word (stands s r)) (ap (λ l. Reported l ∷ []) shown_is),
           put,
         )
 
