@@ -1,40 +1,37 @@
 -- What the node makes of an item.
-use Rattle.std.proofs.Common.{◌≡◌, ◌≢◌, ◌∙◌, ◌+◌, ◌≤◌, ◌++◌, ◌∷◌, [], ℕ, Bool, true, false, List, Option, Some, Result, Ok, Err, OnOk, ap, append_assoc, arith, drop, length, length-append, refl, subst, sym, take}
+use Rattle.std.proofs.Common.{◌≡◌, ◌≢◌, ◌∙◌, ◌+◌, ◌++◌, ◌∷◌, [], ℕ, Bool, true, false, List, Option, Some, Result, Ok, Err, OnOk, ap, append_assoc, drop, refl, subst, sym, take}
 use Rattle.std.specs.Prelude.{IfSome, bytes_eq, codes, slice_get, if◌then◌else◌}
-use Rattle.std.proofs.lemmas.List.{map-append, take-append-le, take_all, take_more}
+use Rattle.std.proofs.lemmas.List.{map-append, take_more}
 use Rattle.std.proofs.lemmas.Slice.Eq.{bytes_eq-Decides}
 use Rattle.std.proofs.lemmas.Option.{get_or_from_slice_get, slice_get_within}
 use Rattle.rows.specs.Versions.{newest}
 use Rattle.rows.specs.declared.refusal.Refusal.{Refusal}
 use Rattle.rows.specs.declared.refusal.Refusal.TheVariants as refusals
-use Rattle.fields_model.specs.Format.{◌>>=◌, Lawful, Refuses, whole}
+use Rattle.fields_model.specs.Format.{◌>>=◌, Refuses, whole}
 use Rattle.fields_model.proofs.WholeTexts.{whole_only}
 use Rattle.machine_model.specs.Meaning.{Meaning, LawfulMachine}
-use Rattle.machine_model.specs.declared.entry.Entry.{Entry}
 use Rattle.wire.specs.Frames.{Frame, sized}
-use Rattle.raft_model.specs.Rafts.{Raft, extended}
+use Rattle.raft_model.specs.Rafts.{Raft}
 use Rattle.raft_model.specs.Steps.{Beat, Compact, Propose, Timeout}
 use Rattle.raft_core.specs.Inputs.{Bytes, Handed, Own}
 use Rattle.raft_core.specs.RaftView.{RaftView, SameRaft}
 use Rattle.raft_core.specs.Refusals.{IsRefused, Stays}
 use Rattle.raft_core.specs.Steps.{Represents, Takes}
-use Rattle.raft_core.specs.StoredParts.{KeepsLog, MayKeepLog, stored_part}
+use Rattle.raft_core.specs.StoredParts.{KeepsLog, MayKeepLog}
 use Rattle.raft_core.specs.Tickets.{IsTicket, standing_of}
 use Rattle.raft_core.specs.declared.ticket.Standing.{Standing}
-use Rattle.raft_snapshot.specs.Changes.{SharesEntries, changed_part, log_change}
+use Rattle.raft_snapshot.specs.Changes.{changed_part, log_change}
 use Rattle.raft_snapshot.specs.Stored.{Stored}
-use Rattle.raft_snapshot.specs.Texts.{Front, front, stable_at, stable_text}
+use Rattle.raft_snapshot.specs.Texts.{front, stable_at, stable_text}
 use Rattle.raft_snapshot.proofs.TextLaws.{front_lawful}
 use Rattle.journal.specs.Events.{IoEvent, Sent, Reported}
 use Rattle.bank_node.specs.Inner.Before.{Remembers}
 use Rattle.bank_node.specs.Inner.Refusals.{is_memory}
 use Rattle.bank_node.specs.Items.{asked, input_of, is_proposal, is_question, ticket}
 use Rattle.bank_node.specs.Lines.{Shows, refused_line, ticket_line, standing_line, standing_word}
-use Rattle.bank_node.specs.Records.{IsDelta, changed_by, raft_replay, stored_of}
+use Rattle.bank_node.specs.Records.{changed_by, raft_replay, stored_of}
 use Rattle.bank_node.specs.Turns.{IsDeclined, IsTaken, MayRefuse, Turn, at_fault, by_server, no_ticket, proposed, refused, sends, shown, taken, told}
 use Rattle.bank_node.specs.declared.delta.Before.{Before}
-use Rattle.bank_node.specs.declared.delta.LogDelta.{LogDelta}
-use Rattle.bank_node.specs.declared.delta.LogDelta.TheVariants as deltas
 
 -- ---- frames, one after the other
 
@@ -47,9 +44,6 @@ sent_more frames i frame old mid new at first second =
     take_more frames i frame (slice_get_within frames i frame at) ∙ ap (λ z. take i frames ++ z ∷ []) (get_or_from_slice_get frames i frame frame at) in
     let more : sends (take (i + 1) frames) ≡ before ++ Sent (sized frame.bytes) ∷ [] = ap sends one ∙ map-append event (take i frames) (frame ∷ []) in
     second ∙ ap (λ l. l ++ Sent (sized frame.bytes) ∷ []) first ∙ append_assoc old before (Sent (sized frame.bytes) ∷ []) ∙ ap (λ l. old ++ l) (sym more)
-
-pub sent_all : (frames : List Frame) (i : ℕ) (old new : List IoEvent) → length frames ≤ i → new ≡ old ++ sends (take i frames) → new ≡ old ++ sends frames
-sent_all frames i old new all done = done ∙ ap (λ l. old ++ sends l) (take_all i frames all)
 
 -- ---- answers of calls
 
@@ -131,14 +125,15 @@ module _ {S C : Type 0} (m : Meaning S C) (item : List ℕ) where
         → after ≡ before ++ Reported line ∷ [] → Made view view before after
     shown_made view line before after is shows put = (Reported line ∷ [], shown line is refl shows refl, put)
 
-    pub told_made : (view : RaftView S C) (text line word : List ℕ) (index term : ℕ) (standing : Option Standing) (before after : List IoEvent) → is_question item ≡ true → text ≡ drop 1 item
-        → whole ticket text ≡ Ok (index, term) → ((s : Raft C) → Represents m view s → standing ≡ standing_of s index term)
+    pub told_made : (view : RaftView S C) (text line word : List ℕ) (at : ℕ × ℕ) (index term : ℕ) (standing : Option Standing) (before after : List IoEvent) → is_question item ≡ true
+        → text ≡ drop 1 item → whole ticket text ≡ Ok at → index ≡ at.0 → term ≡ at.1 → ((s : Raft C) → Represents m view s → standing ≡ standing_of s at.0 at.1)
         → word ≡ standing_word standing → line ≡ standing_line index term word → after ≡ before ++ Reported line ∷ [] → Made view view before after
-    told_made view text line word index term standing before after is behind read stands word_is line_is put =
-        let here = subst (λ t. whole ticket t ≡ Ok (index, term)) behind read in
+    told_made view text line word at index term standing before after is behind read index_is term_is stands word_is line_is put =
+        let here = subst (λ t. whole ticket t ≡ Ok at) behind read in
+        let shown_is : line ≡ standing_line at.0 at.1 word = line_is ∙ ap (λ n. standing_line n term word) index_is ∙ ap (λ n. standing_line at.0 n word) term_is in
         (
           Reported line ∷ [],
-          told index term word is here refl (λ s r. word_is ∙ ap standing_word (stands s r)) (ap (λ l. Reported l ∷ []) line_is),
+          told at.0 at.1 word is here refl (λ s r. word_is ∙ ap standing_word (stands s r)) (ap (λ l. Reported l ∷ []) shown_is),
           put,
         )
 
@@ -164,34 +159,6 @@ module _ {S C : Type 0} (m : Meaning S C) (item : List ℕ) where
         → h ≡ input_of item → none ≡ [] → ((s : Raft C) → Represents m old s → Takes m old s h new none frames) → after ≡ before ++ sends frames → Made old new before after
     taken_made h old new none frames before after other no_proposal no_question of empty takes put =
         (sends frames, taken frames other no_proposal no_question (step_taken h old new no_proposal of none frames empty takes) refl, put)
-
-  -- ---- what is stored
-
-  -- a server that refused stores what it stored
-  pub refused_stays : (old new : RaftView S C) (cause : Refusal) → is_memory cause ≡ false → IsDeclined m item old new cause → stored_part new ≡ stored_part old
-  refused_stays old new cause is why =
-      let same = (parts old new cause (not_memory cause is) why).0 in
-      ap (λ s. record { term = s.term; vote = s.vote; log = record { base = new.base; entries = s.log } }) same.server
-      ∙ ap (λ b. record { term = old.server.term; vote = old.server.vote; log = record { base = b; entries = old.server.log } }) same.base
-
-  pub change_stays : (old new : RaftView S C) (cause : Refusal) (change : LogDelta) (first : Stored S C) → is_memory cause ≡ false → IsDeclined m item old new cause → IsDelta change first (stored_part old)
-      → IsDelta change first (stored_part new)
-  change_stays old new cause change first is why led = subst (IsDelta change first) (sym (refused_stays old new cause is why)) led
-
--- one entry more stands behind all that were there
-pub grown : {S C : Type 0} (old new : RaftView S C) (command : C) (last : ℕ) → last ≡ length old.server.log → old.base.index ≤ length old.server.log → new.base ≡ old.base
-    → new.server ≡ extended old.server command → IsDelta (deltas.Behind last) (stored_part old) (stored_part new)
-grown {S} {C} old new command last is covered base server =
-    let before = old.server.log in
-    let entry : Entry C = record { term = old.server.term; command = command } in
-    let log : new.server.log ≡ before ++ entry ∷ [] = ap (λ s. s.log) server in
-    let longer : length new.server.log ≡ length before + 1 = ap length log ∙ length-append before (entry ∷ []) in
-    record {
-      base = base;
-      covered = omega (arith, is, covered);
-      within = (omega (arith, is), omega (arith, is, longer));
-      same = sym (ap (take last) log ∙ take-append-le last before (entry ∷ []) (omega (arith, is)));
-    }
 
 -- of an item that is no Compact it is said how much of the log a step keeps
 kept_by : {S C : Type 0} (t b c : Bool) (item : List ℕ) (old new : RaftView S C) → c ≢ true

@@ -1,4 +1,4 @@
-use Rattle.std.proofs.Common.{◌≡◌, ◌∙◌, ◌++◌, ◌∷◌, [], ap, map, rules}
+use Rattle.std.proofs.Common.{◌≡◌, ◌∙◌, ◌++◌, ◌∷◌, [], ap, map, sym}
 use Rattle.std.proofs.lemmas.List.{map-append}
 use Rattle.wire.specs.Frames.{sized}
 use Rattle.journal.specs.Events.{Sent}
@@ -15,4 +15,4 @@ loop-place-preserved c =
     let item_is : item.items ≡ sized frame.bytes = c.in_ok-item_of.ensures ∙ ap sized c.bytes.ensures in
     let put : map event_of c.push.new.self.items ≡ map event_of before ++ Sent (sized frame.bytes) ∷ [] =
     ap (map event_of) c.in_ok-push.ensures.items ∙ map-append event_of before (outs.Item item ∷ []) ∙ ap (λ t. map event_of before ++ Sent t ∷ []) item_is in
-    sent_more c.args.frames.now c.loop-place.place frame (map event_of c.args.outs.now.items) (map event_of before) (map event_of c.push.new.self.items) c.in-Some.ensures c.loop-place.invariant put
+    sent_more c.args.frames.now c.loop-place.place frame (map event_of c.args.outs.now.items) (map event_of before) (map event_of c.push.new.self.items) (sym c.in-Some.ensures) c.loop-place.invariant put

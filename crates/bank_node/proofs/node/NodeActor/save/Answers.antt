@@ -29,5 +29,5 @@ returns-in_ok-write_change-in-Behind g c =
           let here = subst (λ v. IsDelta c.args.change.now first (stored_part v)) (sym c.self.view_is) led in
           let shares = subst (λ d. IsDelta d first now) c.in-Behind.is here in
           subst (λ v. changed_by first (whole format text) ≡ Some (stored_part v)) c.self.view_is
-          (change_saved m g.M.Machine.lawful first now keep wrote.0 (c.changes_lead.ensures.change first now keep shares)),
+          (change_saved m g.met.M.Machine.lawful first now keep wrote.0 (c.changes_lead.ensures.change first now keep shares)),
     )
