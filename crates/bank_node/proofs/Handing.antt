@@ -24,26 +24,26 @@ use Rattle.raft_snapshot.specs.Changes.{changed_part, log_change}
 use Rattle.raft_snapshot.specs.Stored.{Stored}
 use Rattle.raft_snapshot.specs.Texts.{front, stable_at, stable_text}
 use Rattle.raft_snapshot.proofs.TextLaws.{front_lawful}
-use Rattle.journal.specs.Events.{IoEvent, Sent, Reported}
+use Rattle.journal.specs.Events.{IoEvent, BytesSent, LineReported}
 use Rattle.bank_node.specs.Inner.Before.{Remembers}
 use Rattle.bank_node.specs.Inner.Refusals.{is_memory}
 use Rattle.bank_node.specs.Items.{asked, input_of, is_proposal, is_question, ticket}
 use Rattle.bank_node.specs.Lines.{Shows, refused_line, ticket_line, standing_line, standing_word}
-use Rattle.bank_node.specs.Records.{changed_by, raft_replay, stored_of}
+use Rattle.bank_node.specs.Records.{changed_by, raft_replay, part_read}
 use Rattle.bank_node.specs.Turns.{IsDeclined, IsTaken, MayRefuse, Turn, at_fault, by_server, no_ticket, proposed, refused, sends, shown, taken, told}
 use Rattle.bank_node.specs.declared.delta.Before.{Before}
 
 -- ---- frames, one after the other
 
 pub sent_more : (frames : List Frame) (i : ℕ) (frame : Frame) (old mid new : List IoEvent) → slice_get frames i ≡ Some frame → mid ≡ old ++ sends (take i frames)
-    → new ≡ mid ++ Sent (sized frame.bytes) ∷ [] → new ≡ old ++ sends (take (i + 1) frames)
+    → new ≡ mid ++ BytesSent (sized frame.bytes) ∷ [] → new ≡ old ++ sends (take (i + 1) frames)
 sent_more frames i frame old mid new at first second =
-    let event : Frame → IoEvent = λ f. Sent (sized f.bytes) in
+    let event : Frame → IoEvent = λ f. BytesSent (sized f.bytes) in
     let before = sends (take i frames) in
     let one : take (i + 1) frames ≡ take i frames ++ frame ∷ [] =
     take_more frames i frame (slice_get_within frames i frame at) ∙ ap (λ z. take i frames ++ z ∷ []) (get_or_from_slice_get frames i frame frame at) in
-    let more : sends (take (i + 1) frames) ≡ before ++ Sent (sized frame.bytes) ∷ [] = ap sends one ∙ map-append event (take i frames) (frame ∷ []) in
-    second ∙ ap (λ l. l ++ Sent (sized frame.bytes) ∷ []) first ∙ append_assoc old before (Sent (sized frame.bytes) ∷ []) ∙ ap (λ l. old ++ l) (sym more)
+    let more : sends (take (i + 1) frames) ≡ before ++ BytesSent (sized frame.bytes) ∷ [] = ap sends one ∙ map-append event (take i frames) (frame ∷ []) in
+    second ∙ ap (λ l. l ++ BytesSent (sized frame.bytes) ∷ []) first ∙ append_assoc old before (BytesSent (sized frame.bytes) ∷ []) ∙ ap (λ l. old ++ l) (sym more)
 
 -- ---- answers of calls
 
@@ -122,36 +122,34 @@ module _ {S C : Type 0} (m : Meaning S C) (item : List ℕ) where
     Made old new before after = (more : List IoEvent) × Turn m words reason item old new more × (after ≡ before ++ more)
 
     pub shown_made : (view : RaftView S C) (line : List ℕ) (before after : List IoEvent) → item ≡ codes "S" → Shows m words view line
-        → after ≡ before ++ Reported line ∷ [] → Made view view before after
-    shown_made view line before after is shows put = (Reported line ∷ [], shown line is refl shows refl, put)
+        → after ≡ before ++ LineReported line ∷ [] → Made view view before after
+    shown_made view line before after is shows put = (LineReported line ∷ [], shown line is refl shows refl, put)
 
     pub told_made : (view : RaftView S C) (text line word : List ℕ) (at : ℕ × ℕ) (index term : ℕ) (standing : Option Standing) (before after : List IoEvent) → is_question item ≡ true
         → text ≡ drop 1 item → whole ticket text ≡ Ok at → index ≡ at.0 → term ≡ at.1 → ((s : Raft C) → Represents m view s → standing ≡ standing_of s at.0 at.1)
-        → word ≡ standing_word standing → line ≡ standing_line index term word → after ≡ before ++ Reported line ∷ [] → Made view view before after
+        → word ≡ standing_word standing → line ≡ standing_line index term word → after ≡ before ++ LineReported line ∷ [] → Made view view before after
     told_made view text line word at index term standing before after is behind read index_is term_is stands word_is line_is put =
         let here = subst (λ t. whole ticket t ≡ Ok at) behind read in
-        let shown_is : line ≡ standing_line at.0 at.1 word = line_is ∙ ap (λ n. standing_line n term word) index_is ∙ ap (λ n. standing_line at.0 n word) term_is in
-        (
-          Reported line ∷ [],
-          told at.0 at.1 word is here refl (λ s r. word_is ∙ ap standing_word (stands s r)) (ap (λ l. Reported l ∷ []) shown_is),
+        let shown_is : line ≡ standing_line at.0 at.1 word = line_is ∙ ap (λ n. standing_line n term word) index_is ∙ ap (λ n. standing_line at.0 n word) term_is in (
+          LineReported line ∷ [],
+          told at.0 at.1 word is here refl (λ s r. word_is ∙ ap standing_word (stands s r)) (ap (λ l. LineReported l ∷ []) shown_is),
           put,
         )
 
     pub refused_made : (old new : RaftView S C) (cause : Refusal) (before after : List IoEvent) → item ≢ codes "S" → is_memory cause ≡ false → IsDeclined m item old new cause
-        → after ≡ before ++ Reported (refused_line reason cause) ∷ [] → Made old new before after
+        → after ≡ before ++ LineReported (refused_line reason cause) ∷ [] → Made old new before after
     refused_made old new cause before after other is why put =
         let lacks = not_memory cause is in
         let p = parts old new cause lacks why in
-        (Reported (refused_line reason cause) ∷ [], refused cause other p.0 lacks p.1 refl, put)
+        (LineReported (refused_line reason cause) ∷ [], refused cause other p.0 lacks p.1 refl, put)
 
     pub proposed_made : (old new : RaftView S C) (text line : List ℕ) (command : C) (index term : ℕ) (before after : List IoEvent) → is_proposal item ≡ true → text ≡ drop 1 item
         → whole (m.commands newest) text ≡ Ok command → ((s : Raft C) (sent : List Frame) → Represents m old s → Takes m old s (Own (Propose command)) new sent sent)
-        → ((s : Raft C) → Represents m new s → IsTicket s command index term) → line ≡ ticket_line index term → after ≡ before ++ Reported line ∷ [] → Made old new before after
+        → ((s : Raft C) → Represents m new s → IsTicket s command index term) → line ≡ ticket_line index term → after ≡ before ++ LineReported line ∷ [] → Made old new before after
     proposed_made old new text line command index term before after is behind read takes stands line_is put =
-        let here = subst (λ t. whole (m.commands newest) t ≡ Ok command) behind read in
-        (
-          Reported line ∷ [],
-          proposed command index term is here (proposal_taken text command old new is behind read takes) stands (ap (λ l. Reported l ∷ []) line_is),
+        let here = subst (λ t. whole (m.commands newest) t ≡ Ok command) behind read in (
+          LineReported line ∷ [],
+          proposed command index term is here (proposal_taken text command old new is behind read takes) stands (ap (λ l. LineReported l ∷ []) line_is),
           put,
         )
 
@@ -186,4 +184,4 @@ module _ {S C : Type 0} (m : Meaning S C) where
       ap (changed_by first) (whole_only f (front_lawful (m.commands newest) (law.commands_lawful newest)) (log_change now.term now.vote now.log keep) fits) ∙ leads
 
   pub whole_saved : (now : Stored S C) → stable_at m (stable_text m newest now) ≡ Ok now → (raft_replay m).whole (stable_text m newest now) ≡ Some now
-  whole_saved now read = ap stored_of read
+  whole_saved now read = ap part_read read

@@ -5,7 +5,7 @@ use Rattle.journal.specs.Events.{IoEvent, BytesCame, InputEnded, RecordAppended,
 use Rattle.journal.specs.Replays.{Replay, replayed_on, replayed}
 use Rattle.std.specs.List.{flat_map}
 use Rattle.wire.specs.Frames.{sized}
-use Rattle.journal.specs.Batches.{BatchTurns, SavesBatch, unchanged, appended, replaced, IsDoneBatch}
+use Rattle.journal.specs.Batches.{BatchTurns, SavesBatch, saves_nothing, saves_change, saves_whole, IsDoneBatch}
 use Rattle.journal.specs.Serving.{TakesBatches, took_none, more_came, took_batch}
 use Rattle.journal.specs.Crashes.{StoreLeftBy}
 
@@ -61,20 +61,20 @@ module _ {V P : Type 0} (k : Replay P) (part : V → P) (Turn : List ℕ → V �
   -- what was done of a batch, if anything was
   within_batch : (fs : List (List ℕ)) (old new : V) (store outs : List IoEvent) (d : IoEvent) (front back : List IoEvent) → SavesBatch k part Turn old new store → AreOutputs outs
       → replayed k fs ≡ Some (part old) → store ++ outs ≡ (d ∷ front) ++ back → Kept fs (d ∷ front) new
-  within_batch fs old new store outs d front back (unchanged same none) only was is =
+  within_batch fs old new store outs d front back (saves_nothing same none) only was is =
       let sent : outs ≡ (d ∷ front) ++ back = sym (ap (λ l. l ++ outs) none) ∙ is in
       ap (replayed k) (outs_keep fs (d ∷ front) back (subst AreOutputs sent only)) ∙ was ∙ ap (λ (z : P). Some z) same
-  within_batch fs old new store outs d front back (appended payload leads one) only was is =
+  within_batch fs old new store outs d front back (saves_change payload leads one) only was is =
       stored_one fs old new (RecordAppended payload) d outs front back only (sym (ap (λ l. l ++ outs) one) ∙ is) (stands_more k fs payload (part old) (part new) was leads)
-  within_batch fs old new store outs d front back (replaced payload leads one) only was is =
+  within_batch fs old new store outs d front back (saves_whole payload leads one) only was is =
       stored_one fs old new (JournalReplaced payload) d outs front back only (sym (ap (λ l. l ++ outs) one) ∙ is) (changed_none k (k.whole payload) (part new) leads)
 
   -- all of a batch
   none_stored : (fs : List (List ℕ)) (old new : V) (store outs : List IoEvent) → SavesBatch k part Turn old new store → replayed k fs ≡ Some (part old) → store ++ outs ≡ [] → Kept fs [] new
-  none_stored fs old new store outs (unchanged same none) was is = was ∙ ap (λ (z : P). Some z) same
-  none_stored fs old new store outs (appended payload leads one) was is =
+  none_stored fs old new store outs (saves_nothing same none) was is = was ∙ ap (λ (z : P). Some z) same
+  none_stored fs old new store outs (saves_change payload leads one) was is =
       let some : RecordAppended payload ∷ outs ≡ [] = sym (ap (λ l. l ++ outs) one) ∙ is in absurd (cc some)
-  none_stored fs old new store outs (replaced payload leads one) was is =
+  none_stored fs old new store outs (saves_whole payload leads one) was is =
       let some : JournalReplaced payload ∷ outs ≡ [] = sym (ap (λ l. l ++ outs) one) ∙ is in absurd (cc some)
 
   whole_batch : (fs : List (List ℕ)) (old new : V) (store outs events : List IoEvent) → SavesBatch k part Turn old new store → AreOutputs outs

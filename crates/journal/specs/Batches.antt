@@ -15,9 +15,9 @@ module _ {V P : Type 0} (k : Replay P) (part : V → P) (Turn : List ℕ → V �
 
   -- what is stored of a change: nothing, where there is none
   pub data SavesBatch (old new : V) (events : List IoEvent) : Type 0 where
-    unchanged : part old ≡ part new → events ≡ [] → SavesBatch old new events
-    appended : (payload : List ℕ) → k.after (part old) payload ≡ Some (part new) → events ≡ RecordAppended payload ∷ [] → SavesBatch old new events
-    replaced : (payload : List ℕ) → k.whole payload ≡ Some (part new) → events ≡ JournalReplaced payload ∷ [] → SavesBatch old new events
+    saves_nothing : part old ≡ part new → events ≡ [] → SavesBatch old new events
+    saves_change : (payload : List ℕ) → k.after (part old) payload ≡ Some (part new) → events ≡ RecordAppended payload ∷ [] → SavesBatch old new events
+    saves_whole : (payload : List ℕ) → k.whole payload ≡ Some (part new) → events ≡ JournalReplaced payload ∷ [] → SavesBatch old new events
 
   pub record IsDoneBatch (items : List (List ℕ)) (old new : V) (events : List IoEvent) : Type 0 where
     pub outs : List IoEvent

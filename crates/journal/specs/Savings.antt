@@ -14,9 +14,9 @@ storing stores.Nothing = []
 storing (stores.Change payload) = RecordAppended payload.items ∷ []
 storing (stores.Whole payload) = JournalReplaced payload.items ∷ []
 
-abbrev pub event_of : Out → IoEvent
-event_of (outs.Item item) = BytesSent item.items
-event_of (outs.Line line) = LineReported line.items
+abbrev pub output_event : Out → IoEvent
+output_event (outs.Item item) = BytesSent item.items
+output_event (outs.Line line) = LineReported line.items
 
 -- how what led from the first of these parts to the other is saved, with this payload
 abbrev pub IsSaving : {P : Type 0} → Replay P → P → P → Saving → List ℕ → Type 0

@@ -1,8 +1,8 @@
 use Rattle.std.proofs.Common.{◌≡◌, ◌∙◌, ◌++◌, ◌∷◌, [], ap, map, sym}
 use Rattle.std.proofs.lemmas.List.{map-append}
 use Rattle.wire.specs.Frames.{sized}
-use Rattle.journal.specs.Events.{Sent}
-use Rattle.journal.specs.Savings.{event_of}
+use Rattle.journal.specs.Events.{BytesSent}
+use Rattle.journal.specs.Savings.{output_event}
 use Rattle.journal.specs.declared.storing.Out.TheVariants as outs
 use Rattle.bank_node.proofs.Handing.{sent_more}
 use Rattle.bank_node.proofs.node.put_frames.Goals as goal
@@ -13,6 +13,6 @@ loop-place-preserved c =
     let frame = c.in-Some.frame in
     let item = c.in_ok-item_of.field-0 in
     let item_is : item.items ≡ sized frame.bytes = c.in_ok-item_of.ensures ∙ ap sized c.bytes.ensures in
-    let put : map event_of c.push.new.self.items ≡ map event_of before ++ Sent (sized frame.bytes) ∷ [] =
-    ap (map event_of) c.in_ok-push.ensures.items ∙ map-append event_of before (outs.Item item ∷ []) ∙ ap (λ t. map event_of before ++ Sent t ∷ []) item_is in
-    sent_more c.args.frames.now c.loop-place.place frame (map event_of c.args.outs.now.items) (map event_of before) (map event_of c.push.new.self.items) (sym c.in-Some.ensures) c.loop-place.invariant put
+    let put : map output_event c.push.new.self.items ≡ map output_event before ++ BytesSent (sized frame.bytes) ∷ [] =
+    ap (map output_event) c.in_ok-push.ensures.items ∙ map-append output_event before (outs.Item item ∷ []) ∙ ap (λ t. map output_event before ++ BytesSent t ∷ []) item_is in
+    sent_more c.args.frames.now c.loop-place.place frame (map output_event c.args.outs.now.items) (map output_event before) (map output_event c.push.new.self.items) (sym c.in-Some.ensures) c.loop-place.invariant put

@@ -1,7 +1,7 @@
 use Rattle.std.proofs.Common.{map, subst}
 use Rattle.std.proofs.lemmas.Result.{on_ok_weaker}
 use Rattle.raft_core.specs.Inputs.{handed}
-use Rattle.journal.specs.Savings.{event_of}
+use Rattle.journal.specs.Savings.{output_event}
 use Rattle.bank_node.proofs.Handing.{Made, on_ok_both, refused_made, step_declined, taken_made}
 use Rattle.bank_node.proofs.node.Node.step.Goals as goal
 
@@ -12,8 +12,8 @@ returns-in-Ok-clause-turn g c =
     let reason = g.M.Words.reason in
     let item = c.args.item.now in
     let new = c.step.new.self in
-    let before = map event_of c.args.outs.now.items in
-    let after = map event_of c.put_frames.new.outs.items in
+    let before = map output_event c.args.outs.now.items in
+    let after = map output_event c.put_frames.new.outs.items in
     on_ok_weaker c.put_frames.result
     (λ put. subst (λ v. Made m item words reason v new before after) c.self.view_is
     (taken_made m item words reason (handed c.input_of.result) c.self.inside.server new c.new-frames.result c.step.new.outbox before after c.requires.other c.requires.no_proposal
@@ -29,8 +29,8 @@ returns-clause-turn g c =
     let old = c.self.inside.server in
     let new = c.step.new.self in
     let cause = c.in-Err.refusal in
-    let before = map event_of c.args.outs.now.items in
-    let after = map event_of c.decline.new.outs.items in
+    let before = map output_event c.args.outs.now.items in
+    let after = map output_event c.decline.new.outs.items in
     on_ok_both c.decline.result
     (λ is put. subst (λ v. Made m item words reason v new before after) c.self.view_is
     (refused_made m item words reason old new cause before after c.requires.other is

@@ -21,8 +21,7 @@ returns-in_ok-write_change-in-Behind g c =
     let keep = c.in-Behind.keep in
     let format = front (m.commands newest) in
     let text = format.text (log_change now.term now.vote now.log keep) in
-    let wrote = c.in_ok-write_change-in-Behind.ensures.ok in
-    (
+    let wrote = c.in_ok-write_change-in-Behind.ensures.ok in (
       text,
       wrote.1,
       λ first led.
