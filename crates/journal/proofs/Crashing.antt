@@ -1,9 +1,9 @@
 -- What is read of a journal's file after a crash at any moment.
 use Rattle.std.proofs.Common.{◌≡◌, ◌∙◌, ◌⊎◌, inl, inr, ℕ, List, [], ◌∷◌, ◌++◌, Some, ap, sym, refl, subst, append_assoc}
-use Rattle.std.specs.List.{flat_map, AllByRecursion}
+use Rattle.std.specs.List.{AllByRecursion}
 use Rattle.std.proofs.lemmas.List.{append-nil}
 use Rattle.fields_model.specs.Format.{Format, Lawful}
-use Rattle.journal.specs.Journals.{IsJournal, IsTorn, IsFilled}
+use Rattle.journal.specs.Journals.{IsJournal, IsFilled}
 use Rattle.journal.specs.Events.{IoEvent, RecordAppended, records_after}
 use Rattle.journal.specs.Replays.{Replay, replayed}
 use Rattle.journal.specs.Serving.{TakesBatches}

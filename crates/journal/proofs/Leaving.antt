@@ -1,11 +1,11 @@
 -- What happened leaves the journal of the actor after some first batches.
-use Rattle.std.proofs.Common.{◌≡◌, ◌∙◌, ◌⊎◌, inl, inr, ℕ, zero, suc, List, [], ◌∷◌, ◌++◌, Option, Some, None, ap, sym, refl, subst, append_assoc, take}
+use Rattle.std.proofs.Common.{◌≡◌, ◌∙◌, ◌⊎◌, inl, inr, ℕ, List, [], ◌∷◌, ◌++◌, Option, Some, None, ap, sym, refl, subst, append_assoc}
 use Rattle.std.proofs.lemmas.List.{append-nil}
 use Rattle.journal.specs.Events.{IoEvent, BytesCame, InputEnded, RecordAppended, JournalReplaced, BytesSent, LineReported, records_after, AreOutputs}
 use Rattle.journal.specs.Replays.{Replay, replayed_on, replayed}
 use Rattle.std.specs.List.{flat_map}
 use Rattle.wire.specs.Frames.{sized}
-use Rattle.journal.specs.Batches.{BatchTurns, SavesBatch, saves_nothing, saves_change, saves_whole, IsDoneBatch}
+use Rattle.journal.specs.Batches.{SavesBatch, saves_nothing, saves_change, saves_whole, IsDoneBatch}
 use Rattle.journal.specs.Serving.{TakesBatches, took_none, more_came, took_batch}
 use Rattle.journal.specs.Crashes.{StoreLeftBy}
 

@@ -1,5 +1,5 @@
 -- What is stored of a batch, and what is sent and reported of it.
-use Rattle.std.specs.Prelude.{◌≡◌, ⊤, ℕ, Some, List, [], ◌∷◌, map}
+use Rattle.std.specs.Prelude.{◌≡◌, ⊤, ℕ, Some, List, [], ◌∷◌}
 use Rattle.journal.specs.Events.{IoEvent, RecordAppended, JournalReplaced, BytesSent, LineReported}
 use Rattle.journal.specs.Replays.{Replay}
 use Rattle.journal.specs.declared.storing.Saving.{Saving}

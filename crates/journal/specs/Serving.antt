@@ -4,7 +4,6 @@ use Rattle.std.specs.List.{flat_map}
 use Rattle.wire.specs.Frames.{sized}
 use Rattle.journal.specs.Events.{IoEvent, BytesCame, JournalReplaced, InputEnded}
 use Rattle.journal.specs.Histories.{GoesOnBy, GoesOnByFirst}
-use Rattle.journal.specs.Items.{IsTooLong, IsPartOfItem}
 use Rattle.journal.specs.Replays.{Replay}
 use Rattle.journal.specs.Batches.{IsDoneBatch}
 

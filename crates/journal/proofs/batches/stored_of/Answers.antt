@@ -1,5 +1,4 @@
-use Rattle.std.proofs.Common.{◌≡◌, ◌∙◌, ◌++◌, ◌∷◌, [], Some, ap, refl, sym, subst}
-use Rattle.journal.specs.Events.{JournalReplaced}
+use Rattle.std.proofs.Common.{◌≡◌, ◌∙◌, ◌++◌, Some, ap, refl, sym, subst}
 use Rattle.journal.specs.Savings.{IsSaving}
 use Rattle.journal.specs.Batches.{saves_change, saves_whole}
 use Rattle.journal.proofs.batches.stored_of.Goals as goal

@@ -1,4 +1,4 @@
-use Rattle.std.proofs.Common.{arith, refl, map, subst}
+use Rattle.std.proofs.Common.{map}
 use Rattle.journal.specs.Savings.{output_event}
 use Rattle.journal.proofs.Batching.{one_taken}
 use Rattle.journal.proofs.batches.take_all.Goals as goal

@@ -1,9 +1,9 @@
-use Rattle.std.proofs.Common.{◌≡◌, ◌∙◌, ◌++◌, drop, map, ap, sym, subst}
+use Rattle.std.proofs.Common.{◌≡◌, ◌++◌, drop, map, sym, subst}
 use Rattle.journal.specs.Histories.{GoesOnBy, GoesOnByFirst}
 use Rattle.journal.specs.Items.{IsTooLong}
 use Rattle.journal.specs.Savings.{storing, output_event}
-use Rattle.journal.specs.Inner.Rests.{NoItem, IsRest}
-use Rattle.journal.specs.Inner.Taking.{TakenUpTo, TakesBatch}
+use Rattle.journal.specs.Inner.Rests.{NoItem}
+use Rattle.journal.specs.Inner.Taking.{TakenUpTo}
 use Rattle.journal.proofs.Batching.{takes_batch, batch_stops, rest_of}
 use Rattle.journal.proofs.Histories.{goes_on_more, begins_all, begins_longer, begins_more}
 use Rattle.journal.proofs.batches.take_batch.Goals as goal
