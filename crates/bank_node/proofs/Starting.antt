@@ -3,7 +3,7 @@ use Rattle.std.proofs.Common.{◌≡◌, ◌∙◌, ℕ, inl, List, [], ◌∷�
 use Rattle.std.specs.List.{flat_map, AllByRecursion}
 use Rattle.std.proofs.lemmas.List.{append-nil}
 use Rattle.std.proofs.lemmas.Grind.{flat_map-append}
-use Rattle.fields_model.specs.Format.{Format, IsBytes}
+use Rattle.fields_model.specs.Format.{IsBytes}
 use Rattle.machine_model.specs.Meaning.{Meaning}
 use Rattle.raft_snapshot.specs.Stored.{Stored}
 use Rattle.journal.specs.Records.{wal_record}

@@ -1,6 +1,6 @@
 -- How what a server stores is kept in the payloads of a journal: the first is the text of all of
 -- it, and each other one a change.
-use Rattle.std.specs.Prelude.{◌≡◌, ⊤, ℕ, Option, Some, None, Result, Ok, Err, List}
+use Rattle.std.specs.Prelude.{◌≡◌, ⊤, ℕ, Option, Some, None, Result, Ok, Err}
 use Rattle.rows.specs.Versions.{newest}
 use Rattle.fields_model.specs.Format.{whole}
 use Rattle.machine_model.specs.Meaning.{Meaning}

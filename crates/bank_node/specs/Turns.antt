@@ -1,5 +1,5 @@
 -- What a node makes of the items of its input.
-use Rattle.std.specs.Prelude.{◌≡◌, ◌≢◌, ⊤, ℕ, true, false, Option, Some, None, List, [], ◌∷◌, ◌++◌, map, codes, drop, Ok, Err}
+use Rattle.std.specs.Prelude.{◌≡◌, ◌≢◌, ⊤, ℕ, true, false, Option, List, [], ◌∷◌, map, codes, drop, Ok, Err}
 use Rattle.rows.specs.Versions.{newest}
 use Rattle.rows.specs.declared.refusal.Refusal.{Refusal}
 use Rattle.rows.specs.declared.refusal.Refusal.TheVariants as refusals

@@ -11,6 +11,7 @@ ghost use Rattle.journal.specs.declared.stop.Stop.TheVariants as stops;
 
 use crate::actor::Actor;
 use crate::batches::take_batch;
+use crate::laws::any_crash_is_read;
 use crate::outside::Outside;
 use crate::stop::Stop;
 use std::alloc::Global;
@@ -166,6 +167,8 @@ fn read_batch<A: Actor, O: Outside>(
 /// it acts. Then the whole items of what was read at once are a batch: what they change of the
 /// stored part is in the journal before anything that they send or report leaves.
 ///
+/// What a crash at any moment leaves of the journal is read as `any_crash_is_read` says.
+///
 /// It ends early where an item is too long, once those in front of it are done with, where the
 /// input ends within an item, and where the input, the journal or the output fails, or memory.
 pub fn serve<A: Actor, O: Outside>(
@@ -184,6 +187,7 @@ pub fn serve<A: Actor, O: Outside>(
         ProcessRunsTo A.replay A.part A.turn actor.old actor.new
         (O.happened outside.old) (O.happened outside.new) (InputEnded ∷ []) IsPartOfItem) }
 {
+    any_crash_is_read::<A>();
     match start(alloc, actor, outside) {
         Ok(()) => {}
         Err(stop) => return Err(stop),

@@ -1,4 +1,4 @@
-use Rattle.std.proofs.Common.{Option, Some, List, ℕ, option_map, ap, length}
+use Rattle.std.proofs.Common.{option_map, ap}
 use Rattle.std.proofs.lemmas.Bool.Decides.{Decides-eqb}
 use Rattle.std.proofs.lemmas.Slice.Eq.{starts_is}
 use Rattle.bank_node.proofs.Starting.{behind_header}
