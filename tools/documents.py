@@ -207,7 +207,7 @@ def wrong_span(text, sources, page):
     for owner, name in CALL.findall(text):
         if not sources.crates_with(owner, name):
             return f"no crate has {owner}::{name}"
-    for word in NAME.findall(re.sub(r"\d+(?:\.\d+)*", " ", text)):
+    for word in NAME.findall(re.sub(r"(?<!\w)\d+(?:\.\d+)*", " ", text)):
         known = word in sources.words or is_open(word)
         parts = word.split("-")
         if not known and not all(it in sources.words or is_open(it) for it in parts):

@@ -1,17 +1,16 @@
 -- What of a log a step left, found by terms.
-use Rattle.std.proofs.Common.{◌≡◌, ◌∙◌, ◌⊎◌, inl, inr, ℕ, zero, suc, ◌+◌, ◌-◌, ◌^◌, ◌<◌, ◌≤◌, max, List, [], ◌∷◌, ◌++◌, length, take, ap, sym, refl, subst, arith, take_all, length-append}
+use Rattle.std.proofs.Common.{◌≡◌, ◌∙◌, ◌⊎◌, inl, inr, ℕ, zero, suc, ◌+◌, ◌-◌, ◌<◌, ◌≤◌, List, [], ◌∷◌, ◌++◌, length, take, ap, sym, refl, subst, arith, take_all, length-append}
 use Rattle.std.specs.Prelude.{slice_index}
 use Rattle.std.proofs.lemmas.Bool.Decides.{leb_tells}
 use Rattle.machine_model.specs.declared.entry.Entry.{Entry}
 use Rattle.raft_model.specs.Logs.{term_at}
 use Rattle.raft_snapshot.specs.Changes.{SameTerms, SharesEntries}
-use Rattle.raft_snapshot.specs.Kept.{Kept}
 use Rattle.raft_snapshot.specs.Stored.{Stored}
 use Rattle.raft_snapshot.proofs.Changes.{shares_over}
 use Rattle.raft_core.specs.RaftView.{RaftView}
 use Rattle.raft_core.specs.StoredParts.{stored_part, KeepsLog}
 use Rattle.bank_node.specs.declared.delta.Before.{Before}
-use Rattle.bank_node.specs.Inner.Before.{HasTerms, SharesTerms, Remembers}
+use Rattle.bank_node.specs.Inner.Before.{SharesTerms, Remembers}
 
 index_last : (xs : List ℕ) (x : ℕ) → slice_index (xs ++ x ∷ []) (length xs) ≡ x
 index_last [] x = refl

@@ -1,2 +1,4 @@
+pub mod Handing
 pub mod Telling
 pub mod Deltas
+pub mod Starting

@@ -1,6 +1,6 @@
 -- How what a server stores is kept in the payloads of a journal: the first is the text of all of
 -- it, and each other one a change.
-use Rattle.std.specs.Prelude.{◌≡◌, ⊤, ℕ, Option, Some, None, Result, Ok, Err, List}
+use Rattle.std.specs.Prelude.{◌≡◌, ⊤, ℕ, Option, Some, None, Result, Ok, Err}
 use Rattle.rows.specs.Versions.{newest}
 use Rattle.fields_model.specs.Format.{whole}
 use Rattle.machine_model.specs.Meaning.{Meaning}
@@ -11,9 +11,9 @@ use Rattle.journal.specs.Replays.{Replay}
 use Rattle.bank_node.specs.declared.delta.LogDelta.{LogDelta}
 use Rattle.bank_node.specs.declared.delta.LogDelta.TheVariants as deltas
 
-abbrev pub stored_of : {A : Type 0} → Result A ℕ → Option A
-stored_of (Ok x) = Some x
-stored_of (Err place) = None
+abbrev pub part_read : {A : Type 0} → Result A ℕ → Option A
+part_read (Ok x) = Some x
+part_read (Err place) = None
 
 abbrev pub changed_by : {S C : Type 0} → Stored S C → Result (Front C) ℕ → Option (Stored S C)
 changed_by s (Ok change) = changed_part s change
@@ -21,7 +21,7 @@ changed_by s (Err place) = None
 
 abbrev pub raft_replay : {S C : Type 0} → Meaning S C → Replay (Stored S C)
 raft_replay m = record {
-  whole = λ payload. stored_of (stable_at m payload);
+  whole = λ payload. part_read (stable_at m payload);
   after = λ s payload. changed_by s (whole (front (m.commands newest)) payload);
 }
 

@@ -1,5 +1,5 @@
 -- What a node starts from.
-use Rattle.std.specs.Prelude.{◌≡◌, ◌≢◌, ◌⊎◌, ℕ, Option, Some, None, List, [], ◌++◌, Err}
+use Rattle.std.specs.Prelude.{◌≡◌, ◌⊎◌, ℕ, Option, Some, None, List, [], ◌++◌}
 use Rattle.machine_model.specs.Meaning.{Meaning}
 use Rattle.raft_snapshot.specs.Kept.{kept}
 use Rattle.raft_snapshot.specs.Stored.{Stored}

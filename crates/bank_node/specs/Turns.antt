@@ -1,5 +1,5 @@
 -- What a node makes of the items of its input.
-use Rattle.std.specs.Prelude.{◌≡◌, ◌≢◌, ⊤, ℕ, true, false, Option, Some, None, List, [], ◌∷◌, ◌++◌, map, codes, drop, Ok, Err}
+use Rattle.std.specs.Prelude.{◌≡◌, ◌≢◌, ⊤, ℕ, true, false, Option, List, [], ◌∷◌, map, codes, drop, Ok, Err}
 use Rattle.rows.specs.Versions.{newest}
 use Rattle.rows.specs.declared.refusal.Refusal.{Refusal}
 use Rattle.rows.specs.declared.refusal.Refusal.TheVariants as refusals
@@ -12,13 +12,13 @@ use Rattle.raft_core.specs.RaftView.{RaftView, SameRaft}
 use Rattle.raft_core.specs.Refusals.{IsRefused}
 use Rattle.raft_core.specs.Steps.{Represents, Takes}
 use Rattle.raft_core.specs.Tickets.{IsTicket, standing_of}
-use Rattle.journal.specs.Events.{IoEvent, Sent, Reported}
+use Rattle.journal.specs.Events.{IoEvent, BytesSent, LineReported}
 use Rattle.bank_node.specs.Items.{asked, ticket, is_proposal, is_question}
 use Rattle.bank_node.specs.Lines.{Shows, refused_line, ticket_line, standing_line, standing_word}
 
 -- each frame goes to the output, as an item
 abbrev pub sends : List Frame → List IoEvent
-sends frames = map (λ (frame : Frame). Sent (sized frame.bytes)) frames
+sends frames = map (λ (frame : Frame). BytesSent (sized frame.bytes)) frames
 
 module _ {S C : Type 0} (m : Meaning S C) where
   -- the server takes what the item asks, and these are the frames that it sends
@@ -49,11 +49,11 @@ module _ {S C : Type 0} (m : Meaning S C) where
         → events ≡ sends frames → Turn words reason item old new events
     proposed : (command : C) (index term : ℕ) → is_proposal item ≡ true → whole (m.commands newest) (drop 1 item) ≡ Ok command → IsTaken item old new []
         → ((s : Raft C) → Represents m new s → IsTicket s command index term)
-        → events ≡ Reported (ticket_line index term) ∷ [] → Turn words reason item old new events
+        → events ≡ LineReported (ticket_line index term) ∷ [] → Turn words reason item old new events
     refused : (cause : Refusal) → item ≢ codes "S" → SameRaft old new → cause ≢ refusals.NoMemory
-        → MayRefuse item old cause → events ≡ Reported (refused_line reason cause) ∷ [] → Turn words reason item old new events
+        → MayRefuse item old cause → events ≡ LineReported (refused_line reason cause) ∷ [] → Turn words reason item old new events
     shown : (line : List ℕ) → item ≡ codes "S" → new ≡ old → Shows m words old line
-        → events ≡ Reported line ∷ [] → Turn words reason item old new events
+        → events ≡ LineReported line ∷ [] → Turn words reason item old new events
     told : (index term : ℕ) (word : List ℕ) → is_question item ≡ true → whole ticket (drop 1 item) ≡ Ok (index, term) → new ≡ old
         → ((s : Raft C) → Represents m old s → word ≡ standing_word (standing_of s index term))
-        → events ≡ Reported (standing_line index term word) ∷ [] → Turn words reason item old new events
+        → events ≡ LineReported (standing_line index term word) ∷ [] → Turn words reason item old new events

@@ -9,9 +9,9 @@ ghost use Rattle.raft_core.specs.Inputs.{handed};
 ghost use Rattle.raft_core.specs.RaftView.{RaftView, SameRaft};
 ghost use Rattle.raft_core.specs.StoredParts.{stored_part, MayKeepLog};
 ghost use Rattle.raft_snapshot.specs.Stored.{Stored};
-ghost use Rattle.journal.specs.Events.{IoEvent, AreOutputs, Sent, Reported};
+ghost use Rattle.journal.specs.Events.{IoEvent, AreOutputs, BytesSent, LineReported};
 ghost use Rattle.journal.specs.Replays.{Replay};
-ghost use Rattle.journal.specs.Savings.{event_of, IsSaving};
+ghost use Rattle.journal.specs.Savings.{output_event, IsSaving};
 ghost use Rattle.bank_node.specs.Inner.Before.{Remembers};
 ghost use Rattle.bank_node.specs.Inner.Refusals.{is_memory};
 ghost use Rattle.bank_node.specs.Laws.Outputs.{outputs_alone};
@@ -58,8 +58,8 @@ impl<M: Words> Node<M> {
 
 /// Puts a line behind what is sent and reported.
 fn put_line(line: Vec<u8>, outs: &mut Vec<Out>) -> Result<(), NoMemory>
-    ensures { OnOk result (map event_of outs.new.items
-        ≡ map event_of outs.old.items ++ Reported line.items ∷ []) }
+    ensures { OnOk result (map output_event outs.new.items
+        ≡ map output_event outs.old.items ++ LineReported line.items ∷ []) }
 {
     outs.push(Out::Line(line))?;
     Ok(())
@@ -67,8 +67,8 @@ fn put_line(line: Vec<u8>, outs: &mut Vec<Out>) -> Result<(), NoMemory>
 
 /// Puts each frame, as an item, behind what is sent and reported.
 fn put_frames(alloc: Global, frames: &Frames, outs: &mut Vec<Out>) -> Result<(), NoMemory>
-    ensures { OnOk result (map event_of outs.new.items
-        ≡ map event_of outs.old.items ++ sends frames.now) }
+    ensures { OnOk result (map output_event outs.new.items
+        ≡ map output_event outs.old.items ++ sends frames.now) }
 {
     for place in 0..frames.len() {
         let Some(frame) = frames.get(place) else {
@@ -92,8 +92,8 @@ fn is_memory(refusal: &Refusal) -> bool
 /// Reports why an item is refused. Want of memory is none of an item's.
 fn decline<M: Words>(alloc: Global, refusal: Refusal, outs: &mut Vec<Out>) -> Result<(), NoMemory>
     ensures other { OnOk result (is_memory refusal ≡ false) }
-    ensures line { OnOk result (map event_of outs.new.items
-        ≡ map event_of outs.old.items ++ Reported (refused_line M.reason refusal) ∷ []) }
+    ensures line { OnOk result (map output_event outs.new.items
+        ≡ map output_event outs.old.items ++ LineReported (refused_line M.reason refusal) ∷ []) }
 {
     if is_memory(&refusal) {
         return Err(NoMemory);
@@ -163,7 +163,7 @@ impl<M: Words> Node<M> {
         requires { item.now ≡ codes "S" }
         ensures { OnOk result ((more : List IoEvent)
             × Turn M.meaning M.words M.reason item.now self.now self.now more
-            × (map event_of outs.new.items ≡ map event_of outs.old.items ++ more)) }
+            × (map output_event outs.new.items ≡ map output_event outs.old.items ++ more)) }
     {
         let line = status_line(alloc, &self.server)?;
         put_line(line, outs)
@@ -174,7 +174,7 @@ impl<M: Words> Node<M> {
         requires { is_question item.now ≡ true }
         ensures { OnOk result ((more : List IoEvent)
             × Turn M.meaning M.words M.reason item.now self.now self.now more
-            × (map event_of outs.new.items ≡ map event_of outs.old.items ++ more)) }
+            × (map output_event outs.new.items ≡ map output_event outs.old.items ++ more)) }
     {
         match read_ticket(behind_first(item)) {
             Ok((index, term)) => {
@@ -198,7 +198,7 @@ impl<M: Words> Node<M> {
         requires is { is_proposal item.now ≡ true }
         ensures turn { OnOk result ((more : List IoEvent)
             × Turn M.meaning M.words M.reason item.now self.old self.new more
-            × (map event_of outs.new.items ≡ map event_of outs.old.items ++ more)) }
+            × (map output_event outs.new.items ≡ map output_event outs.old.items ++ more)) }
         ensures change { OnOk result ((first : Stored M M.Command) →
             IsDelta change.old first (stored_part self.old) →
             IsDelta change.new first (stored_part self.new)) }
@@ -232,7 +232,7 @@ impl<M: Words> Node<M> {
         requires no_question { is_question item.now ≡ false }
         ensures turn { OnOk result ((more : List IoEvent)
             × Turn M.meaning M.words M.reason item.now self.old self.new more
-            × (map event_of outs.new.items ≡ map event_of outs.old.items ++ more)) }
+            × (map output_event outs.new.items ≡ map output_event outs.old.items ++ more)) }
         ensures change { OnOk result ((first : Stored M M.Command) →
             IsDelta change.old first (stored_part self.old) →
             IsDelta change.new first (stored_part self.new)) }

@@ -1,14 +1,14 @@
 -- Whether an item stands at the front of some bytes.
-use Rattle.std.proofs.Common.{◌≡◌, ◌≢◌, ◌∙◌, ℕ, ◌+◌, ◌-◌, ◌^◌, ◌<◌, ◌≤◌, List, [], ◌∷◌, ◌++◌, Ok, Err, length, take, drop, ap, sym, refl, subst, arith, append_assoc, append-nil, length-append, length-drop, length-take-le}
+use Rattle.std.proofs.Common.{◌≡◌, ◌∙◌, ℕ, ◌+◌, ◌^◌, ◌<◌, ◌≤◌, List, [], ◌∷◌, ◌++◌, Ok, length, take, drop, ap, sym, refl, arith, append_assoc, append-nil, length-append, length-drop, length-take-le}
 use Rattle.std.proofs.lemmas.List.{take-append-drop, drop-drop, drop_all}
-use Rattle.fields_model.specs.Format.{spelled, IsBytes, number_at}
+use Rattle.fields_model.specs.Format.{spelled, IsBytes}
 use Rattle.fields_model.specs.Fields.{u32}
 use Rattle.fields_model.proofs.FormatLaws.{length-spelled}
 use Rattle.fields_model.proofs.FieldLaws.{u32_lawful}
 use Rattle.fields_model.proofs.WholeTexts.{no_text_begins_another}
 use Rattle.wire.specs.Frames.{sized}
-use Rattle.journal.specs.Items.{most_bytes, IsTooLong, IsPartOfItem, of_length, of_bytes, ItemStarts}
-use Rattle.journal.specs.Inner.Rests.{NoItem, nothing, part, long}
+use Rattle.journal.specs.Items.{most_bytes, IsTooLong, of_length, of_bytes, ItemStarts}
+use Rattle.journal.specs.Inner.Rests.{NoItem, no_bytes, part, long}
 
 pub head_spells : (head : List ℕ) (size next : ℕ) → length head ≡ 4 → IsBytes head → u32.read head 0 ≡ Ok (size, next) → spelled 4 size ≡ head
 head_spells head size next four bytes read =
@@ -18,7 +18,7 @@ head_spells head size next four bytes read =
     sym (at.here ∙ ap (λ l. spelled 4 size ++ l) none ∙ append-nil (spelled 4 size))
 
 none_case : (rest : List ℕ) → length rest < 4 → NoItem rest
-none_case [] few = nothing refl
+none_case [] few = no_bytes refl
 none_case (x ∷ rest) few = part (of_length (λ none. absurd cc) few)
 
 -- fewer bytes than a length has

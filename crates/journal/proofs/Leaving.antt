@@ -1,32 +1,32 @@
 -- What happened leaves the journal of the actor after some first batches.
-use Rattle.std.proofs.Common.{◌≡◌, ◌∙◌, ◌⊎◌, inl, inr, ℕ, zero, suc, List, [], ◌∷◌, ◌++◌, Option, Some, None, ap, sym, refl, subst, append_assoc, take}
+use Rattle.std.proofs.Common.{◌≡◌, ◌∙◌, ◌⊎◌, inl, inr, ℕ, List, [], ◌∷◌, ◌++◌, Option, Some, None, ap, sym, refl, subst, append_assoc}
 use Rattle.std.proofs.lemmas.List.{append-nil}
-use Rattle.journal.specs.Events.{IoEvent, Received, InputEnded, Appended, Replaced, Sent, Reported, records_after, AreOutputs}
+use Rattle.journal.specs.Events.{IoEvent, BytesCame, InputEnded, RecordAppended, JournalReplaced, BytesSent, LineReported, records_after, AreOutputs}
 use Rattle.journal.specs.Replays.{Replay, replayed_on, replayed}
 use Rattle.std.specs.List.{flat_map}
 use Rattle.wire.specs.Frames.{sized}
-use Rattle.journal.specs.Batches.{Turns, Stores, unchanged, appended, replaced, Batch}
-use Rattle.journal.specs.Serving.{Serves, begins, receives, takes}
-use Rattle.journal.specs.Crashes.{Leaves}
+use Rattle.journal.specs.Batches.{SavesBatch, saves_nothing, saves_change, saves_whole, IsDoneBatch}
+use Rattle.journal.specs.Serving.{TakesBatches, took_none, more_came, took_batch}
+use Rattle.journal.specs.Crashes.{StoreLeftBy}
 
 pub records_both : (fs : List (List ℕ)) (xs ys : List IoEvent) → records_after fs (xs ++ ys) ≡ records_after (records_after fs xs) ys
 records_both fs [] ys = refl
-records_both fs (Received p ∷ xs) ys = records_both fs xs ys
+records_both fs (BytesCame p ∷ xs) ys = records_both fs xs ys
 records_both fs (InputEnded ∷ xs) ys = records_both fs xs ys
-records_both fs (Appended p ∷ xs) ys = records_both (fs ++ p ∷ []) xs ys
-records_both fs (Replaced p ∷ xs) ys = records_both (p ∷ []) xs ys
-records_both fs (Sent p ∷ xs) ys = records_both fs xs ys
-records_both fs (Reported p ∷ xs) ys = records_both fs xs ys
+records_both fs (RecordAppended p ∷ xs) ys = records_both (fs ++ p ∷ []) xs ys
+records_both fs (JournalReplaced p ∷ xs) ys = records_both (p ∷ []) xs ys
+records_both fs (BytesSent p ∷ xs) ys = records_both fs xs ys
+records_both fs (LineReported p ∷ xs) ys = records_both fs xs ys
 
 -- what is sent and told leaves the store as it is, and so do the first of it
 outs_keep : (fs : List (List ℕ)) (front back : List IoEvent) → AreOutputs (front ++ back) → records_after fs front ≡ fs
 outs_keep fs [] back only = refl
-outs_keep fs (Received p ∷ front) back only = absurd only
+outs_keep fs (BytesCame p ∷ front) back only = absurd only
 outs_keep fs (InputEnded ∷ front) back only = absurd only
-outs_keep fs (Appended p ∷ front) back only = absurd only
-outs_keep fs (Replaced p ∷ front) back only = absurd only
-outs_keep fs (Sent p ∷ front) back only = outs_keep fs front back only
-outs_keep fs (Reported p ∷ front) back only = outs_keep fs front back only
+outs_keep fs (RecordAppended p ∷ front) back only = absurd only
+outs_keep fs (JournalReplaced p ∷ front) back only = absurd only
+outs_keep fs (BytesSent p ∷ front) back only = outs_keep fs front back only
+outs_keep fs (LineReported p ∷ front) back only = outs_keep fs front back only
 
 module _ {P : Type 0} (k : Replay P) where
   -- one more change
@@ -59,25 +59,25 @@ module _ {V P : Type 0} (k : Replay P) (part : V → P) (Turn : List ℕ → V �
       subst (λ z. Kept fs (z ∷ front) new) first (ap (replayed k) (split ∙ kept) ∙ now)
 
   -- what was done of a batch, if anything was
-  within_batch : (fs : List (List ℕ)) (old new : V) (store outs : List IoEvent) (d : IoEvent) (front back : List IoEvent) → Stores k part Turn old new store → AreOutputs outs
+  within_batch : (fs : List (List ℕ)) (old new : V) (store outs : List IoEvent) (d : IoEvent) (front back : List IoEvent) → SavesBatch k part Turn old new store → AreOutputs outs
       → replayed k fs ≡ Some (part old) → store ++ outs ≡ (d ∷ front) ++ back → Kept fs (d ∷ front) new
-  within_batch fs old new store outs d front back (unchanged same none) only was is =
+  within_batch fs old new store outs d front back (saves_nothing same none) only was is =
       let sent : outs ≡ (d ∷ front) ++ back = sym (ap (λ l. l ++ outs) none) ∙ is in
       ap (replayed k) (outs_keep fs (d ∷ front) back (subst AreOutputs sent only)) ∙ was ∙ ap (λ (z : P). Some z) same
-  within_batch fs old new store outs d front back (appended payload leads one) only was is =
-      stored_one fs old new (Appended payload) d outs front back only (sym (ap (λ l. l ++ outs) one) ∙ is) (stands_more k fs payload (part old) (part new) was leads)
-  within_batch fs old new store outs d front back (replaced payload leads one) only was is =
-      stored_one fs old new (Replaced payload) d outs front back only (sym (ap (λ l. l ++ outs) one) ∙ is) (changed_none k (k.whole payload) (part new) leads)
+  within_batch fs old new store outs d front back (saves_change payload leads one) only was is =
+      stored_one fs old new (RecordAppended payload) d outs front back only (sym (ap (λ l. l ++ outs) one) ∙ is) (stands_more k fs payload (part old) (part new) was leads)
+  within_batch fs old new store outs d front back (saves_whole payload leads one) only was is =
+      stored_one fs old new (JournalReplaced payload) d outs front back only (sym (ap (λ l. l ++ outs) one) ∙ is) (changed_none k (k.whole payload) (part new) leads)
 
   -- all of a batch
-  none_stored : (fs : List (List ℕ)) (old new : V) (store outs : List IoEvent) → Stores k part Turn old new store → replayed k fs ≡ Some (part old) → store ++ outs ≡ [] → Kept fs [] new
-  none_stored fs old new store outs (unchanged same none) was is = was ∙ ap (λ (z : P). Some z) same
-  none_stored fs old new store outs (appended payload leads one) was is =
-      let some : Appended payload ∷ outs ≡ [] = sym (ap (λ l. l ++ outs) one) ∙ is in absurd (cc some)
-  none_stored fs old new store outs (replaced payload leads one) was is =
-      let some : Replaced payload ∷ outs ≡ [] = sym (ap (λ l. l ++ outs) one) ∙ is in absurd (cc some)
+  none_stored : (fs : List (List ℕ)) (old new : V) (store outs : List IoEvent) → SavesBatch k part Turn old new store → replayed k fs ≡ Some (part old) → store ++ outs ≡ [] → Kept fs [] new
+  none_stored fs old new store outs (saves_nothing same none) was is = was ∙ ap (λ (z : P). Some z) same
+  none_stored fs old new store outs (saves_change payload leads one) was is =
+      let some : RecordAppended payload ∷ outs ≡ [] = sym (ap (λ l. l ++ outs) one) ∙ is in absurd (cc some)
+  none_stored fs old new store outs (saves_whole payload leads one) was is =
+      let some : JournalReplaced payload ∷ outs ≡ [] = sym (ap (λ l. l ++ outs) one) ∙ is in absurd (cc some)
 
-  whole_batch : (fs : List (List ℕ)) (old new : V) (store outs events : List IoEvent) → Stores k part Turn old new store → AreOutputs outs
+  whole_batch : (fs : List (List ℕ)) (old new : V) (store outs events : List IoEvent) → SavesBatch k part Turn old new store → AreOutputs outs
       → replayed k fs ≡ Some (part old) → store ++ outs ≡ events → Kept fs events new
   whole_batch fs old new store outs [] stores only was is = none_stored fs old new store outs stores was is
   whole_batch fs old new store outs (d ∷ events) stores only was is = within_batch fs old new store outs d events [] stores only was (is ∙ sym (append-nil (d ∷ events)))
@@ -100,15 +100,15 @@ module _ {V P : Type 0} (k : Replay P) (part : V → P) (Turn : List ℕ → V �
       longer x u xs ys us vs same (ends_first xs ys us vs rest)
 
   -- after all that happened
-  kept_all : (fs : List (List ℕ)) (old : V) (left : List ℕ) (new : V) (events : List IoEvent) → replayed k fs ≡ Some (part old) → Serves k part Turn [] old left new events → Kept fs events new
-  kept_all fs old left new events was begins = was
-  kept_all fs old left new all was (receives before now events bytes s) =
-      ap (replayed k) (records_both fs events (Received bytes ∷ [])) ∙ kept_all fs old before now events was s
-  kept_all fs old left new all was (takes before mid now events more items rest s is batch) =
+  kept_all : (fs : List (List ℕ)) (old : V) (left : List ℕ) (new : V) (events : List IoEvent) → replayed k fs ≡ Some (part old) → TakesBatches k part Turn [] old left new events → Kept fs events new
+  kept_all fs old left new events was took_none = was
+  kept_all fs old left new all was (more_came before now events bytes s) =
+      ap (replayed k) (records_both fs events (BytesCame bytes ∷ [])) ∙ kept_all fs old before now events was s
+  kept_all fs old left new all was (took_batch before mid now events more items rest s is batch) =
       ap (replayed k) (records_both fs events more)
       ∙ whole_batch (records_after fs events) mid now batch.store batch.outs more batch.stores batch.only (kept_all fs old before mid events was s) (sym batch.is)
 
-  all_done : (fs : List (List ℕ)) (old : V) (left : List ℕ) (new : V) (events : List IoEvent) → replayed k fs ≡ Some (part old) → Serves k part Turn [] old left new events → Leaves k part Turn fs old events
+  all_done : (fs : List (List ℕ)) (old : V) (left : List ℕ) (new : V) (events : List IoEvent) → replayed k fs ≡ Some (part old) → TakesBatches k part Turn [] old left new events → StoreLeftBy k part Turn fs old events
   all_done fs old left new events was s =
       record { left = left; last = new; events = events; serves = s; others = []; begun = sym (append-nil events); store = kept_all fs old left new events was s }
 
@@ -118,28 +118,28 @@ module _ {V P : Type 0} (k : Replay P) (part : V → P) (Turn : List ℕ → V �
 
   -- one event came behind the others
   one_case : (fs : List (List ℕ)) (old : V) (before left : List ℕ) (now new : V) (events front back : List IoEvent) (one : IoEvent) → replayed k fs ≡ Some (part old)
-      → Serves k part Turn [] old before now events → Serves k part Turn [] old left new (events ++ one ∷ [])
-      → ((d : IoEvent) → (more : List IoEvent) → events ≡ front ++ d ∷ more → Leaves k part Turn fs old front)
+      → TakesBatches k part Turn [] old before now events → TakesBatches k part Turn [] old left new (events ++ one ∷ [])
+      → ((d : IoEvent) → (more : List IoEvent) → events ≡ front ++ d ∷ more → StoreLeftBy k part Turn fs old front)
       → ((more : List IoEvent) × (front ≡ events ++ more) × (one ∷ [] ≡ more ++ back)) ⊎ ((d : IoEvent) × (more : List IoEvent) × (events ≡ front ++ d ∷ more))
-      → Leaves k part Turn fs old front
+      → StoreLeftBy k part Turn fs old front
   one_case fs old before left now new events front back one was s all earlier (inr (d, more, is)) = earlier d more is
   one_case fs old before left now new events front back one was s all earlier (inl ([], is, rest)) =
-      subst (Leaves k part Turn fs old) (sym (is ∙ append-nil events)) (all_done fs old before now events was s)
+      subst (StoreLeftBy k part Turn fs old) (sym (is ∙ append-nil events)) (all_done fs old before now events was s)
   one_case fs old before left now new events front back one was s all earlier (inl (d ∷ more, is, rest)) =
       let both : one ∷ [] ≡ d ∷ (more ++ back) = rest in
       let first : one ≡ d = cc both in
       let none : more ≡ [] = none_left more back (cc both) in
-      subst (Leaves k part Turn fs old) (sym (is ∙ ap (λ l. events ++ d ∷ l) none ∙ ap (λ x. events ++ x ∷ []) (sym first))) (all_done fs old left new (events ++ one ∷ []) was all)
+      subst (StoreLeftBy k part Turn fs old) (sym (is ∙ ap (λ l. events ++ d ∷ l) none ∙ ap (λ x. events ++ x ∷ []) (sym first))) (all_done fs old left new (events ++ one ∷ []) was all)
 
   -- a batch came behind them
   batch_case : (fs : List (List ℕ)) (old : V) (before rest : List ℕ) (mid now : V) (events more front back : List IoEvent) (items : List (List ℕ)) → replayed k fs ≡ Some (part old)
-      → Serves k part Turn [] old before mid events → before ≡ flat_map sized items ++ rest → Batch k part Turn items mid now more
-      → ((d : IoEvent) → (others : List IoEvent) → events ≡ front ++ d ∷ others → Leaves k part Turn fs old front)
+      → TakesBatches k part Turn [] old before mid events → before ≡ flat_map sized items ++ rest → IsDoneBatch k part Turn items mid now more
+      → ((d : IoEvent) → (others : List IoEvent) → events ≡ front ++ d ∷ others → StoreLeftBy k part Turn fs old front)
       → ((first : List IoEvent) × (front ≡ events ++ first) × (more ≡ first ++ back)) ⊎ ((d : IoEvent) × (others : List IoEvent) × (events ≡ front ++ d ∷ others))
-      → Leaves k part Turn fs old front
+      → StoreLeftBy k part Turn fs old front
   batch_case fs old before rest mid now events more front back items was s is batch earlier (inr (d, others, at)) = earlier d others at
   batch_case fs old before rest mid now events more front back items was s is batch earlier (inl ([], at, all)) =
-      subst (Leaves k part Turn fs old) (sym (at ∙ append-nil events)) (all_done fs old before mid events was s)
+      subst (StoreLeftBy k part Turn fs old) (sym (at ∙ append-nil events)) (all_done fs old before mid events was s)
   batch_case fs old before rest mid now events more front back items was s is batch earlier (inl (d ∷ first, at, all)) =
       let there = records_after fs events in
       let kept = within_batch there mid now batch.store batch.outs d first back batch.stores batch.only (kept_all fs old before mid events was s) (sym batch.is ∙ all) in
@@ -147,18 +147,18 @@ module _ {V P : Type 0} (k : Replay P) (part : V → P) (Turn : List ℕ → V �
         left = rest;
         last = now;
         events = events ++ more;
-        serves = takes before mid now events more items rest s is batch;
+        serves = took_batch before mid now events more items rest s is batch;
         others = back;
         begun = ap (λ l. events ++ l) all ∙ sym (append_assoc events (d ∷ first) back) ∙ ap (λ l. l ++ back) (sym at);
         store = ap (λ l. replayed k (records_after fs l)) at ∙ ap (replayed k) (records_both fs events (d ∷ first)) ∙ kept;
       }
 
   pub leaves : (fs : List (List ℕ)) (old : V) (left : List ℕ) (new : V) (all front back : List IoEvent) → replayed k fs ≡ Some (part old)
-      → Serves k part Turn [] old left new all → all ≡ front ++ back → Leaves k part Turn fs old front
-  leaves fs old left new all front back was begins is = subst (Leaves k part Turn fs old) (sym (none_left front back is)) (all_done fs old [] old [] was begins)
-  leaves fs old left new all front back was (receives before now events bytes s) is =
-      one_case fs old before (before ++ bytes) now now events front back (Received bytes) was s (receives before now events bytes s)
-      (λ d more at. leaves fs old before now events front (d ∷ more) was s at) (ends_first front back events (Received bytes ∷ []) (sym is))
-  leaves fs old left new all front back was (takes before mid now events more items rest s at batch) is =
+      → TakesBatches k part Turn [] old left new all → all ≡ front ++ back → StoreLeftBy k part Turn fs old front
+  leaves fs old left new all front back was took_none is = subst (StoreLeftBy k part Turn fs old) (sym (none_left front back is)) (all_done fs old [] old [] was took_none)
+  leaves fs old left new all front back was (more_came before now events bytes s) is =
+      one_case fs old before (before ++ bytes) now now events front back (BytesCame bytes) was s (more_came before now events bytes s)
+      (λ d more at. leaves fs old before now events front (d ∷ more) was s at) (ends_first front back events (BytesCame bytes ∷ []) (sym is))
+  leaves fs old left new all front back was (took_batch before mid now events more items rest s at batch) is =
       batch_case fs old before rest mid now events more front back items was s at batch
       (λ d others here. leaves fs old before mid events front (d ∷ others) was s here) (ends_first front back events more (sym is))

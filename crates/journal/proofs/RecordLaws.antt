@@ -1,7 +1,7 @@
 -- Frames are lawful, and have bytes.
-use Rattle.std.proofs.Common.{◌≡◌, ◌∙◌, ℕ, ◌+◌, ◌-◌, ◌^◌, ◌≤◌, List, [], ◌∷◌, ◌++◌, Some, None, Bool, true, false, cond, eqb, length, ap, sym, refl, subst, arith, length-append}
+use Rattle.std.proofs.Common.{◌≡◌, ◌∙◌, ℕ, ◌-◌, ◌^◌, List, ◌++◌, Some, None, Bool, true, false, cond, eqb, length, ap, sym, refl, arith, length-append}
 use Rattle.std.proofs.lemmas.Bool.{eqb-true}
-use Rattle.fields_model.specs.Format.{Format, Lawful, spelled}
+use Rattle.fields_model.specs.Format.{Lawful, spelled}
 use Rattle.fields_model.proofs.FormatLaws.{number_lawful, string_lawful, then_lawful, coded_lawful, length-spelled}
 use Rattle.journal.specs.Journals.{IsFilled}
 use Rattle.journal.specs.Records.{checksum, any_byte, checked, wal_record}

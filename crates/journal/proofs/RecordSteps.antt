@@ -1,11 +1,11 @@
 -- A wal_record, read and written step by step.
-use Rattle.std.proofs.Common.{◌≡◌, ◌≢◌, ◌∙◌, ℕ, ◌+◌, ◌-◌, ◌^◌, ◌<◌, ◌≤◌, List, [], ◌∷◌, ◌++◌, Some, None, Bool, true, false, cond, eqb, ltb, length, take, drop, ap, sym, refl, subst, arith, append_assoc, Result, Ok, Err, length-drop, length-take-le}
+use Rattle.std.proofs.Common.{◌≡◌, ◌≢◌, ◌∙◌, ℕ, ◌+◌, ◌-◌, ◌^◌, ◌<◌, ◌≤◌, List, [], ◌∷◌, ◌++◌, true, false, eqb, length, take, drop, ap, sym, refl, arith, append_assoc, Result, Ok, Err, length-drop, length-take-le}
 use Rattle.std.specs.List.{list_all}
 use Rattle.std.proofs.lemmas.Bool.{eq-eqb, ne_eqb, lt-ltb, le-ltb}
-use Rattle.fields_model.specs.Format.{Format, spelled, number_at, string_at, string, number, code_at, Refuses}
+use Rattle.fields_model.specs.Format.{spelled, number_at, string_at, Refuses}
 use Rattle.rows.specs.declared.refusal.Refusal.{Refusal}
 use Rattle.rows.specs.declared.refusal.Refusal.TheVariants as refusals
-use Rattle.journal.specs.Records.{checksum, any_byte, checked, wal_record}
+use Rattle.journal.specs.Records.{checksum, any_byte, wal_record}
 
 all_any : (xs : List ℕ) → list_all any_byte xs ≡ true
 all_any [] = refl

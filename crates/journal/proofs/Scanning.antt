@@ -1,25 +1,25 @@
 -- Whole records, one more at a time; and the tails that a crash leaves.
-use Rattle.std.proofs.Common.{◌≡◌, ◌≢◌, ◌∙◌, ◌⊎◌, inl, inr, ℕ, ◌+◌, ◌-◌, ◌^◌, Bool, true, false, leb, MatchBool, ◌<◌, ◌≤◌, List, [], ◌∷◌, ◌++◌, Result, Ok, Err, length, take, drop, ap, sym, refl, subst, arith, append_assoc, length-append, length-drop, length-take-le}
+use Rattle.std.proofs.Common.{◌≡◌, ◌∙◌, inl, inr, ℕ, ◌+◌, ◌-◌, ◌^◌, Bool, true, false, leb, MatchBool, ◌<◌, ◌≤◌, List, [], ◌∷◌, ◌++◌, Ok, Err, length, take, drop, ap, sym, refl, arith, append_assoc, length-append, length-drop, length-take-le}
 use Rattle.std.specs.List.{flat_map, AllByRecursion}
-use Rattle.std.proofs.lemmas.List.{append-nil, drop_at, take_at, take-append-drop, take-append-le, append_cancel_left, drop-drop}
+use Rattle.std.proofs.lemmas.List.{append-nil, take_at, take-append-drop, take-append-le, append_cancel_left, drop-drop}
 use Rattle.std.proofs.lemmas.Grind.{flat_map-append}
 use Rattle.std.proofs.lemmas.Bool.{leb-true, leb-false}
 use Rattle.std.proofs.lemmas.Bool.Decides.{leb_tells}
-use Rattle.fields_model.specs.Format.{Format, IsBytes, spelled}
+use Rattle.fields_model.specs.Format.{IsBytes, spelled}
 use Rattle.fields_model.specs.Fields.{u32}
 use Rattle.fields_model.proofs.FormatLaws.{length-spelled}
 use Rattle.fields_model.proofs.FieldLaws.{u32_lawful}
 use Rattle.fields_model.proofs.WholeTexts.{no_text_begins_another}
 use Rattle.journal.specs.Records.{checksum, wal_record}
-use Rattle.journal.specs.Journals.{NoneBegins, IsJournal}
-use Rattle.journal.specs.Tails.{AreWhole, MayBeTorn, short, cut}
+use Rattle.journal.specs.Journals.{IsJournal}
+use Rattle.journal.specs.Tails.{AreWholeRecords, MayBeTorn, short, cut}
 use Rattle.journal.proofs.RecordLaws.{record_lawful, record_filled}
 
 all_push : {A : Type 0} (P : A → Type 0) (xs : List A) (x : A) → AllByRecursion P xs → P x → AllByRecursion P (xs ++ x ∷ [])
 all_push P [] x all p = (p, tt)
 all_push P (y ∷ xs) x all p = (all.0, all_push P xs x all.1 p)
 
-pub none_whole : (bytes : List ℕ) → AreWhole bytes 0
+pub none_whole : (bytes : List ℕ) → AreWholeRecords bytes 0
 none_whole bytes = record { payloads = []; fits = tt; is = refl }
 
 length_some : (xs : List ℕ) → (xs ≡ [] → ⊥) → 0 < length xs
@@ -28,7 +28,7 @@ length_some (x ∷ xs) some = omega arith
 
 module _ (bytes : List ℕ) (fits : IsBytes bytes) (at : ℕ) where
   module _ (payload : List ℕ) (next : ℕ) (read : wal_record.read bytes at ≡ Ok (payload, next)) where
-    pub one_whole : AreWhole bytes at → AreWhole bytes next
+    pub one_whole : AreWholeRecords bytes at → AreWholeRecords bytes next
     one_whole so =
         let s = record_lawful.found bytes at payload next fits read in
         let front = flat_map wal_record.text so.payloads in
@@ -47,7 +47,7 @@ module _ (bytes : List ℕ) (fits : IsBytes bytes) (at : ℕ) where
         let long = ap length s.here ∙ length-append (wal_record.text payload) (drop next bytes) in
         (omega (arith, some, s.after), omega (arith, le, s.after, long, length-drop at bytes, length-drop next bytes))
 
-  pub ended : (place : ℕ) → wal_record.read bytes at ≡ Err place → AreWhole bytes at → (payloads : List (List ℕ)) × IsJournal wal_record bytes payloads (drop at bytes)
+  pub ended : (place : ℕ) → wal_record.read bytes at ≡ Err place → AreWholeRecords bytes at → (payloads : List (List ℕ)) × IsJournal wal_record bytes payloads (drop at bytes)
   ended place read so = (
     so.payloads,
     record {

@@ -1,5 +1,5 @@
 -- What has happened, and more that happens.
-use Rattle.std.specs.Prelude.{◌≡◌, ◌⊎◌, ⊤, ℕ, Option, Some, None, List, [], ◌∷◌, ◌++◌}
+use Rattle.std.specs.Prelude.{◌≡◌, ◌⊎◌, ⊤, Option, Some, None, List, [], ◌∷◌, ◌++◌}
 use Rattle.journal.specs.Events.{IoEvent}
 
 -- what has happened, where it is known, goes on by these

@@ -1,6 +1,6 @@
 -- What is stored of a batch, and what is sent and reported of it.
-use Rattle.std.specs.Prelude.{◌≡◌, ⊤, ℕ, Some, List, [], ◌∷◌, map}
-use Rattle.journal.specs.Events.{IoEvent, Appended, Replaced, Sent, Reported}
+use Rattle.std.specs.Prelude.{◌≡◌, ⊤, ℕ, Some, List, [], ◌∷◌}
+use Rattle.journal.specs.Events.{IoEvent, RecordAppended, JournalReplaced, BytesSent, LineReported}
 use Rattle.journal.specs.Replays.{Replay}
 use Rattle.journal.specs.declared.storing.Saving.{Saving}
 use Rattle.journal.specs.declared.storing.Saving.TheVariants as savings
@@ -11,12 +11,12 @@ use Rattle.journal.specs.declared.storing.Out.TheVariants as outs
 
 abbrev pub storing : Stored → List IoEvent
 storing stores.Nothing = []
-storing (stores.Change payload) = Appended payload.items ∷ []
-storing (stores.Whole payload) = Replaced payload.items ∷ []
+storing (stores.Change payload) = RecordAppended payload.items ∷ []
+storing (stores.Whole payload) = JournalReplaced payload.items ∷ []
 
-abbrev pub event_of : Out → IoEvent
-event_of (outs.Item item) = Sent item.items
-event_of (outs.Line line) = Reported line.items
+abbrev pub output_event : Out → IoEvent
+output_event (outs.Item item) = BytesSent item.items
+output_event (outs.Line line) = LineReported line.items
 
 -- how what led from the first of these parts to the other is saved, with this payload
 abbrev pub IsSaving : {P : Type 0} → Replay P → P → P → Saving → List ℕ → Type 0

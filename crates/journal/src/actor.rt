@@ -2,7 +2,7 @@
 ghost use Rattle.std.specs.Prelude.{◌≡◌, ◌++◌, ℕ, List, Some, IfOk, OnOk, map};
 ghost use Rattle.journal.specs.Events.{IoEvent, AreOutputs};
 ghost use Rattle.journal.specs.Replays.{Replay};
-ghost use Rattle.journal.specs.Savings.{event_of, IsSaving};
+ghost use Rattle.journal.specs.Savings.{output_event, IsSaving};
 
 use crate::storing::{Out, Saving};
 use rows::NoMemory;
@@ -46,7 +46,7 @@ pub trait Actor {
         outs: &mut Vec<Out>,
     ) -> Result<(), NoMemory>
         ensures turn { OnOk result ((more : List IoEvent) × turn item.now self.old self.new more
-            × (map event_of outs.new.items ≡ map event_of outs.old.items ++ more)) }
+            × (map output_event outs.new.items ≡ map output_event outs.old.items ++ more)) }
         ensures change { OnOk result ((first : Self.Part) →
             leads change.old first (part self.old) → leads change.new first (part self.new)) };
 

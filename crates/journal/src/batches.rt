@@ -2,8 +2,8 @@
 ghost use Rattle.std.specs.Prelude.{◌≡◌, ◌≤◌, ℕ, [], IfOk, OnOk, OnErr, IfErr, drop, length, map};
 ghost use Rattle.journal.specs.Histories.{GoesOnBy, GoesOnByFirst};
 ghost use Rattle.journal.specs.Items.{IsTooLong};
-ghost use Rattle.journal.specs.Savings.{storing, event_of};
-ghost use Rattle.journal.specs.Batches.{Stores};
+ghost use Rattle.journal.specs.Savings.{storing, output_event};
+ghost use Rattle.journal.specs.Batches.{SavesBatch};
 ghost use Rattle.journal.specs.Inner.Rests.{NoItem, IsRest};
 ghost use Rattle.journal.specs.Inner.Taking.{TakenUpTo, TakesBatch, BatchStops};
 ghost use Rattle.journal.specs.declared.stop.Stop.TheVariants as stops;
@@ -28,7 +28,7 @@ fn take_all<A: Actor>(
     requires none { outs.old.items ≡ [] }
     requires unchanged { A.leads change.old (A.part actor.old) (A.part actor.old) }
     ensures taken { IfOk result (λ at. TakenUpTo A.replay A.part A.turn bytes.now at
-        actor.old actor.new (map event_of outs.new.items)) }
+        actor.old actor.new (map output_event outs.new.items)) }
     ensures all { IfOk result (λ at. NoItem (drop at bytes.now)) }
     ensures changed { OnOk result
         (A.leads change.new (A.part actor.old) (A.part actor.new)) }
@@ -50,7 +50,7 @@ fn stored_of<A: Actor, O: Outside>(
 ) -> Result<Stored, NoMemory>
     ensures { IfOk result (λ s. (first : A) →
         A.leads change.now (A.part first) (A.part actor.now) →
-        Stores A.replay A.part A.turn first actor.now (storing s)) }
+        SavesBatch A.replay A.part A.turn first actor.now (storing s)) }
 {
     let mut payload = Vec::new(alloc);
     match actor.save(change, &mut payload)? {

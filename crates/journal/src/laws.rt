@@ -7,8 +7,8 @@ ghost use Rattle.journal.specs.Journals.{IsJournal, IsTorn};
 ghost use Rattle.journal.specs.Events.{IoEvent, records_after};
 ghost use Rattle.journal.specs.Tails.{MayBeTorn};
 ghost use Rattle.journal.specs.Replays.{replayed};
-ghost use Rattle.journal.specs.Serving.{Serves};
-ghost use Rattle.journal.specs.Crashes.{Crash, IsRead};
+ghost use Rattle.journal.specs.Serving.{TakesBatches};
+ghost use Rattle.journal.specs.Crashes.{CrashLeaves, IsReadBack};
 
 use crate::actor::Actor;
 
@@ -36,9 +36,9 @@ pub fn any_crash_is_read<A: Actor>()
     ensures { (before : List (List ℕ)) (left : List ℕ) (old new : A) (all done : List IoEvent)
         (file : List ℕ) (payloads : List (List ℕ)) (tail : List ℕ) →
         replayed A.replay before ≡ Some (A.part old) →
-        Serves A.replay A.part A.turn [] old left new all →
-        Crash wal_record before all done file →
+        TakesBatches A.replay A.part A.turn [] old left new all →
+        CrashLeaves wal_record before all done file →
         AllByRecursion wal_record.Fits (records_after before done) →
         IsJournal wal_record file payloads tail →
-        IsRead A.replay A.part A.turn before old done payloads }
+        IsReadBack A.replay A.part A.turn before old done payloads }
 {}

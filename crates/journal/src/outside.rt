@@ -1,6 +1,6 @@
 //! The world outside a process.
 ghost use Rattle.std.specs.Prelude.{◌≡◌, ◌<◌, ◌≤◌, ◌∷◌, [], List, Option, None, IfOk, OnErr, OnOk, length, take};
-ghost use Rattle.journal.specs.Events.{IoEvent, Received, InputEnded, Appended, Replaced, Sent, Reported};
+ghost use Rattle.journal.specs.Events.{IoEvent, BytesCame, InputEnded, RecordAppended, JournalReplaced, BytesSent, LineReported};
 ghost use Rattle.journal.specs.Histories.{GoesOnBy, MayGoOnBy};
 
 use std::io;
@@ -17,7 +17,7 @@ pub trait Outside {
         ensures same { length buffer.new ≡ length buffer.old }
         ensures some { IfOk result (λ count. 0 < count →
             GoesOnBy (happened self.old) (happened self.new)
-            (Received (take count buffer.new) ∷ [])) }
+            (BytesCame (take count buffer.new) ∷ [])) }
         ensures none { IfOk result (λ count. count ≡ 0 → 0 < length buffer.old →
             GoesOnBy (happened self.old) (happened self.new) (InputEnded ∷ [])) }
         ensures err { OnErr result (GoesOnBy (happened self.old) (happened self.new) []) };
@@ -29,28 +29,28 @@ pub trait Outside {
     /// outlives a crash. After an error, and after a crash on the way, it is there or it is not.
     fn append(&mut self, payload: &[u8]) -> io::Result<()>
         ensures ok { OnOk result
-            (GoesOnBy (happened self.old) (happened self.new) (Appended payload.now ∷ [])) }
+            (GoesOnBy (happened self.old) (happened self.new) (RecordAppended payload.now ∷ [])) }
         ensures err { OnErr result
-            (MayGoOnBy (happened self.old) (happened self.new) (Appended payload.now)) };
+            (MayGoOnBy (happened self.old) (happened self.new) (RecordAppended payload.now)) };
 
     /// Puts a journal of one record in place of the journal, in the same way.
     fn replace(&mut self, payload: &[u8]) -> io::Result<()>
         ensures ok { OnOk result
-            (GoesOnBy (happened self.old) (happened self.new) (Replaced payload.now ∷ [])) }
+            (GoesOnBy (happened self.old) (happened self.new) (JournalReplaced payload.now ∷ [])) }
         ensures err { OnErr result
-            (MayGoOnBy (happened self.old) (happened self.new) (Replaced payload.now)) };
+            (MayGoOnBy (happened self.old) (happened self.new) (JournalReplaced payload.now)) };
 
     /// Writes bytes to the output.
     fn send(&mut self, bytes: &[u8]) -> io::Result<()>
         ensures ok { OnOk result
-            (GoesOnBy (happened self.old) (happened self.new) (Sent bytes.now ∷ [])) }
+            (GoesOnBy (happened self.old) (happened self.new) (BytesSent bytes.now ∷ [])) }
         ensures err { OnErr result
-            (MayGoOnBy (happened self.old) (happened self.new) (Sent bytes.now)) };
+            (MayGoOnBy (happened self.old) (happened self.new) (BytesSent bytes.now)) };
 
     /// Writes a line to the standard error.
     fn report(&mut self, line: &[u8]) -> io::Result<()>
         ensures ok { OnOk result
-            (GoesOnBy (happened self.old) (happened self.new) (Reported line.now ∷ [])) }
+            (GoesOnBy (happened self.old) (happened self.new) (LineReported line.now ∷ [])) }
         ensures err { OnErr result
-            (MayGoOnBy (happened self.old) (happened self.new) (Reported line.now)) };
+            (MayGoOnBy (happened self.old) (happened self.new) (LineReported line.now)) };
 }

@@ -1,9 +1,9 @@
 //! The loop of an actor's process.
 ghost use Rattle.std.specs.Prelude.{◌≡◌, ◌≤◌, ◌<◌, ◌∷◌, ◌++◌, [], ℕ, true, false, Some, List, Option, IfErr, IfOk, MatchBool, OnErr, OnOk, length, take};
-ghost use Rattle.journal.specs.Events.{IoEvent, Received, InputEnded, Replaced};
+ghost use Rattle.journal.specs.Events.{IoEvent, BytesCame, InputEnded, JournalReplaced};
 ghost use Rattle.journal.specs.Histories.{GoesOnBy, MayGoOnBy};
 ghost use Rattle.journal.specs.Items.{IsTooLong, IsPartOfItem};
-ghost use Rattle.journal.specs.Serving.{RunsToEnd, RunsTo, Stops};
+ghost use Rattle.journal.specs.Serving.{ProcessRunsToEnd, ProcessRunsTo, ProcessStops};
 ghost use Rattle.journal.specs.Inner.Coming.{CameTo};
 ghost use Rattle.journal.specs.Inner.Rests.{IsRest};
 ghost use Rattle.journal.specs.Inner.Starting.{StartStops, MayReceive};
@@ -11,6 +11,7 @@ ghost use Rattle.journal.specs.declared.stop.Stop.TheVariants as stops;
 
 use crate::actor::Actor;
 use crate::batches::take_batch;
+use crate::laws::any_crash_is_read;
 use crate::outside::Outside;
 use crate::stop::Stop;
 use std::alloc::Global;
@@ -23,7 +24,7 @@ const BUFFER_BYTES: usize = 65_536;
 fn start<A: Actor, O: Outside>(alloc: Global, actor: &A, outside: &mut O) -> Result<(), Stop>
     ensures ok { OnOk result ((payload : List ℕ)
         × (A.replay.whole payload ≡ Some (A.part actor.now))
-        × GoesOnBy (O.happened outside.old) (O.happened outside.new) (Replaced payload ∷ [])) }
+        × GoesOnBy (O.happened outside.old) (O.happened outside.new) (JournalReplaced payload ∷ [])) }
     ensures err { OnErr result (StartStops A.replay A.part actor.now
         (O.happened outside.old) (O.happened outside.new)) }
     ensures other { IfErr result (λ stop. (stop ≡ stops.Cut → ⊥)
@@ -46,7 +47,7 @@ fn read_some<O: Outside>(outside: &mut O, buffer: &mut [u8]) -> Result<usize, St
     ensures same { length buffer.new ≡ length buffer.old }
     ensures some { IfOk result (λ count. 0 < count →
         GoesOnBy (O.happened outside.old) (O.happened outside.new)
-        (Received (take count buffer.new) ∷ [])) }
+        (BytesCame (take count buffer.new) ∷ [])) }
     ensures none { IfOk result (λ count. count ≡ 0 →
         GoesOnBy (O.happened outside.old) (O.happened outside.new) (InputEnded ∷ [])) }
     ensures err { OnErr result
@@ -76,7 +77,7 @@ fn read_more<O: Outside>(
     ensures same { length buffer.new ≡ length buffer.old }
     ensures more { IfOk result (λ more. more ≡ true → (bytes : List ℕ)
         × (pending.new.items ≡ pending.old.items ++ bytes)
-        × GoesOnBy (O.happened outside.old) (O.happened outside.new) (Received bytes ∷ [])) }
+        × GoesOnBy (O.happened outside.old) (O.happened outside.new) (BytesCame bytes ∷ [])) }
     ensures none { IfOk result (λ more. more ≡ false →
         (pending.new.items ≡ pending.old.items)
         × GoesOnBy (O.happened outside.old) (O.happened outside.new) (InputEnded ∷ [])) }
@@ -127,22 +128,22 @@ fn read_batch<A: Actor, O: Outside>(
         (first : A) (did : Option (List IoEvent)) →
         CameTo A.replay A.part A.turn first pending.old.items actor.old did
         (O.happened outside.old) →
-        RunsToEnd A.replay A.part A.turn first actor.new did (O.happened outside.new)) }
+        ProcessRunsToEnd A.replay A.part A.turn first actor.new did (O.happened outside.new)) }
     ensures err { OnErr result ((first : A) (did : Option (List IoEvent)) →
         CameTo A.replay A.part A.turn first pending.old.items actor.old did
         (O.happened outside.old) →
-        Stops A.replay A.part A.turn first did (O.happened outside.new)) }
+        ProcessStops A.replay A.part A.turn first did (O.happened outside.new)) }
     ensures long { IfErr result (λ stop. (size : ℕ) → stop ≡ stops.TooLong size →
         (first : A) (did : Option (List IoEvent)) →
         CameTo A.replay A.part A.turn first pending.old.items actor.old did
         (O.happened outside.old) →
-        RunsTo A.replay A.part A.turn first actor.new did (O.happened outside.new) []
+        ProcessRunsTo A.replay A.part A.turn first actor.new did (O.happened outside.new) []
         (λ left. IsTooLong left size)) }
     ensures cut { IfErr result (λ stop. stop ≡ stops.Cut →
         (first : A) (did : Option (List IoEvent)) →
         CameTo A.replay A.part A.turn first pending.old.items actor.old did
         (O.happened outside.old) →
-        RunsTo A.replay A.part A.turn first actor.new did (O.happened outside.new)
+        ProcessRunsTo A.replay A.part A.turn first actor.new did (O.happened outside.new)
         (InputEnded ∷ []) IsPartOfItem) }
 {
     match read_more(outside, buffer.as_mut_slice(), pending) {
@@ -166,6 +167,8 @@ fn read_batch<A: Actor, O: Outside>(
 /// it acts. Then the whole items of what was read at once are a batch: what they change of the
 /// stored part is in the journal before anything that they send or report leaves.
 ///
+/// What a crash at any moment leaves of the journal is read as `any_crash_is_read` says.
+///
 /// It ends early where an item is too long, once those in front of it are done with, where the
 /// input ends within an item, and where the input, the journal or the output fails, or memory.
 pub fn serve<A: Actor, O: Outside>(
@@ -173,17 +176,18 @@ pub fn serve<A: Actor, O: Outside>(
     actor: &mut A,
     outside: &mut O,
 ) -> Result<(), Stop>
-    ensures ok { OnOk result (RunsToEnd A.replay A.part A.turn actor.old actor.new
+    ensures ok { OnOk result (ProcessRunsToEnd A.replay A.part A.turn actor.old actor.new
         (O.happened outside.old) (O.happened outside.new)) }
-    ensures err { OnErr result (Stops A.replay A.part A.turn actor.old
+    ensures err { OnErr result (ProcessStops A.replay A.part A.turn actor.old
         (O.happened outside.old) (O.happened outside.new)) }
     ensures long { IfErr result (λ stop. (size : ℕ) → stop ≡ stops.TooLong size →
-        RunsTo A.replay A.part A.turn actor.old actor.new
+        ProcessRunsTo A.replay A.part A.turn actor.old actor.new
         (O.happened outside.old) (O.happened outside.new) [] (λ left. IsTooLong left size)) }
     ensures cut { IfErr result (λ stop. stop ≡ stops.Cut →
-        RunsTo A.replay A.part A.turn actor.old actor.new
+        ProcessRunsTo A.replay A.part A.turn actor.old actor.new
         (O.happened outside.old) (O.happened outside.new) (InputEnded ∷ []) IsPartOfItem) }
 {
+    any_crash_is_read::<A>();
     match start(alloc, actor, outside) {
         Ok(()) => {}
         Err(stop) => return Err(stop),

@@ -1,7 +1,7 @@
 //! What is stored of a batch, and what its turns send and report.
 ghost use Rattle.std.specs.Prelude.{◌∷◌, [], map, OnErr, OnOk};
 ghost use Rattle.journal.specs.Histories.{GoesOnBy, MayGoOnBy, GoesOnByFirst};
-ghost use Rattle.journal.specs.Savings.{storing, event_of};
+ghost use Rattle.journal.specs.Savings.{storing, output_event};
 
 use crate::outside::Outside;
 use std::io;
@@ -55,9 +55,9 @@ pub(crate) fn store<O: Outside>(stored: &Stored, outside: &mut O) -> io::Result<
 /// Sends or reports one thing.
 fn put<O: Outside>(out: &Out, outside: &mut O) -> io::Result<()>
     ensures ok { OnOk result
-        (GoesOnBy (O.happened outside.old) (O.happened outside.new) (event_of out.now ∷ [])) }
+        (GoesOnBy (O.happened outside.old) (O.happened outside.new) (output_event out.now ∷ [])) }
     ensures err { OnErr result
-        (MayGoOnBy (O.happened outside.old) (O.happened outside.new) (event_of out.now)) }
+        (MayGoOnBy (O.happened outside.old) (O.happened outside.new) (output_event out.now)) }
 {
     match out {
         Out::Item(item) => outside.send(item.as_slice()),
@@ -68,9 +68,9 @@ fn put<O: Outside>(out: &Out, outside: &mut O) -> io::Result<()>
 /// Sends and reports all, in order.
 pub(crate) fn put_all<O: Outside>(outs: &[Out], outside: &mut O) -> io::Result<()>
     ensures ok { OnOk result
-        (GoesOnBy (O.happened outside.old) (O.happened outside.new) (map event_of outs.now)) }
+        (GoesOnBy (O.happened outside.old) (O.happened outside.new) (map output_event outs.now)) }
     ensures err { OnErr result
-        (GoesOnByFirst (O.happened outside.old) (O.happened outside.new) (map event_of outs.now)) }
+        (GoesOnByFirst (O.happened outside.old) (O.happened outside.new) (map output_event outs.now)) }
 {
     for out in outs {
         put(out, outside)?;

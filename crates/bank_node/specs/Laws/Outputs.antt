@@ -1,5 +1,5 @@
 -- A turn puts nothing into the store.
-use Rattle.std.proofs.Common.{◌≡◌, ℕ, List, [], ◌∷◌, Option, map, sym, subst}
+use Rattle.std.proofs.Common.{ℕ, List, [], ◌∷◌, Option, sym, subst}
 use Rattle.rows.specs.declared.refusal.Refusal.{Refusal}
 use Rattle.machine_model.specs.Meaning.{Meaning}
 use Rattle.wire.specs.Frames.{Frame}

@@ -1,4 +1,4 @@
-use Rattle.std.proofs.Common.{◌∙◌, arith, length, subst, sym}
+use Rattle.std.proofs.Common.{arith, subst, sym}
 use Rattle.raft_snapshot.specs.Changes.{SharesEntries}
 use Rattle.raft_core.specs.StoredParts.{stored_part}
 use Rattle.bank_node.specs.Inner.Before.{SharesTerms}

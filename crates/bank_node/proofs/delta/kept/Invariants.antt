@@ -1,4 +1,4 @@
-use Rattle.std.proofs.Common.{◌≡◌, ◌+◌, ◌<◌, ◌≤◌, ◌^◌}
+use Rattle.std.proofs.Common.{◌≡◌, ◌+◌, ◌<◌, ◌^◌}
 use Rattle.bank_node.specs.Inner.Before.{SharesTerms}
 use Rattle.bank_node.proofs.delta.kept.Given as goal
 

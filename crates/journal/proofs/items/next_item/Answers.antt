@@ -1,4 +1,4 @@
-use Rattle.std.proofs.Common.{arith, refl, rules}
+use Rattle.std.proofs.Common.{arith, refl}
 use Rattle.journal.proofs.Fronts.{none_long, none_part, starts}
 use Rattle.journal.proofs.items.next_item.Goals as goal
 

@@ -1,5 +1,5 @@
-use Rattle.std.proofs.Common.{rules, arith, ◌≡◌, ◌∙◌, ◌+◌, Ok, ap, sym}
-use Rattle.journal.proofs.RecordSteps.{no_sum, no_size, no_bytes, other_sum, same_sum, refused_at, as_long}
+use Rattle.std.proofs.Common.{◌∙◌, ◌+◌, Ok, ap, sym}
+use Rattle.journal.proofs.RecordSteps.{no_sum, other_sum, same_sum, refused_at, as_long}
 use Rattle.journal.proofs.records.next_record.Goals as goal
 
 pub returns-in_default : goal.returns-in_default

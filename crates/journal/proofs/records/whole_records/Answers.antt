@@ -1,4 +1,4 @@
-use Rattle.std.proofs.Common.{arith, refl}
+use Rattle.std.proofs.Common.{arith}
 use Rattle.journal.proofs.Scanning.{none_whole, one_whole, one_further, ended}
 use Rattle.journal.proofs.records.whole_records.Goals as goal
 

@@ -1,4 +1,4 @@
-use Rattle.std.proofs.Common.{rules, arith, ◌≡◌, ◌∙◌, ◌+◌, ◌++◌, ◌<◌, ◌^◌, Ok, ap, sym, subst, length}
+use Rattle.std.proofs.Common.{arith, ◌≡◌, ◌∙◌, ◌++◌, ◌<◌, ◌^◌, ap, subst, length}
 use Rattle.fields_model.specs.Format.{spelled}
 use Rattle.journal.proofs.RecordSteps.{payload_fits, written}
 use Rattle.journal.proofs.records.write_record.Goals as goal

@@ -1,7 +1,5 @@
-use Rattle.std.proofs.Common.{◌≡◌, ◌∙◌, ◌++◌, [], subst, sym}
+use Rattle.std.proofs.Common.{◌≡◌, ◌∙◌, [], subst, sym}
 use Rattle.journal.specs.Inner.Coming.{CameTo}
-use Rattle.journal.specs.Inner.Rests.{IsRest}
-use Rattle.journal.specs.Inner.Taking.{TakesBatch, BatchStops}
 use Rattle.journal.proofs.Progress.{came_read, came_batch, stops_reading, stops_at_end, stops_within, too_long_at, cut_at, is_part}
 use Rattle.journal.proofs.serving.read_batch.Goals as goal
 

@@ -1,5 +1,5 @@
 use Rattle.std.proofs.Common.{◌∷◌, [], take, arith, refl, ◌∙◌}
-use Rattle.journal.specs.Events.{Received, InputEnded}
+use Rattle.journal.specs.Events.{BytesCame, InputEnded}
 use Rattle.journal.proofs.Histories.{goes_on_nil, goes_on_more}
 use Rattle.journal.proofs.serving.read_some.Goals as goal
 
@@ -9,7 +9,7 @@ tries-init g c = record { same = refl; happened = goes_on_nil (g.O.Outside.happe
 pub returns-in-Ok-clause-some : goal.returns-in-Ok-clause-some
 returns-in-Ok-clause-some g c = λ some.
     goes_on_more (g.O.Outside.happened c.args.outside.now) (g.O.Outside.happened c.tries.outside) (g.O.Outside.happened c.read.new.self)
-    [] (Received (take c.in-Ok.count c.read.new.buffer) ∷ []) c.tries.invariant.happened (c.in-Ok.ensures.some some)
+    [] (BytesCame (take c.in-Ok.count c.read.new.buffer) ∷ []) c.tries.invariant.happened (c.in-Ok.ensures.some some)
 
 pub returns-in-Ok-clause-none : goal.returns-in-Ok-clause-none
 returns-in-Ok-clause-none g c = λ none.

@@ -1,6 +1,6 @@
-use Rattle.std.proofs.Common.{◌≡◌, arith, refl, subst, sym}
+use Rattle.std.proofs.Common.{arith, subst, sym}
 use Rattle.journal.specs.Inner.Coming.{CameTo}
-use Rattle.journal.specs.Inner.Rests.{IsRest, empty}
+use Rattle.journal.specs.Inner.Rests.{empty}
 use Rattle.journal.proofs.Histories.{goes_on_nil}
 use Rattle.journal.proofs.Progress.{started, start_stops, stops_here}
 use Rattle.journal.proofs.serving.serve.Goals as goal

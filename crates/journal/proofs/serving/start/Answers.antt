@@ -1,6 +1,4 @@
 use Rattle.std.proofs.Common.{◌∙◌, ◌++◌, Some, ◌≡◌, ap, sym, subst}
-use Rattle.journal.specs.Histories.{MayGoOnBy}
-use Rattle.journal.specs.Events.{Replaced}
 use Rattle.journal.specs.Inner.Starting.{within}
 use Rattle.journal.proofs.serving.start.Goals as goal
 
