@@ -1,5 +1,5 @@
 -- The records of a journal, read one after the other.
-use Rattle.std.proofs.Common.{◌≡◌, ◌∙◌, ℕ, inl, List, [], ◌∷◌, ◌++◌, Option, Some, None, Result, Ok, Err, IfOk, length, drop, ap, sym, refl, subst, append_assoc}
+use Rattle.std.proofs.Common.{◌≡◌, ◌∙◌, ℕ, inl, List, [], ◌∷◌, ◌++◌, Option, Some, None, Result, Ok, Err, IfOk, length, drop, ap, sym, refl, subst, append_assoc, IfErr}
 use Rattle.std.specs.List.{flat_map, AllByRecursion}
 use Rattle.std.proofs.lemmas.List.{append-nil}
 use Rattle.std.proofs.lemmas.Grind.{flat_map-append}
@@ -10,9 +10,11 @@ use Rattle.journal.specs.Records.{wal_record}
 use Rattle.journal.specs.Replays.{Replay, replayed_on, replayed}
 use Rattle.journal.specs.Tails.{MayBeTorn}
 use Rattle.journal.proofs.RecordLaws.{record_lawful}
-use Rattle.bank_node.specs.Inner.Reading.{ReplaysUpTo}
+use Rattle.bank_node.specs.Reading.{ReplaysUpTo}
 use Rattle.bank_node.specs.Records.{raft_replay}
-use Rattle.bank_node.specs.Starts.{ReplaysTo, IsStored}
+use Rattle.bank_node.specs.declared.fault.Fault.{Fault}
+use Rattle.bank_node.specs.declared.fault.Fault.TheVariants as faults
+use Rattle.bank_node.specs.Starts.{FaultAt, IsBadStore, no_change, no_tail, ReplaysTo, IsStored}
 
 all_push : {A : Type 0} (P : A → Type 0) (xs : List A) (x : A) → AllByRecursion P xs → P x → AllByRecursion P (xs ++ x ∷ [])
 all_push P [] x all p = (p, tt)
@@ -82,3 +84,17 @@ pub behind_header : {S C E : Type 0} (m : Meaning S C) (header bytes : List ℕ)
 behind_header m header bytes stored (Err e) is split so = tt
 behind_header m header bytes stored (Ok part) is split so =
     subst (λ (z : Option (List ℕ)). IsStored m header z part) (sym is) (inl (drop (length header) bytes, split, so))
+
+module _ {S C : Type 0} (m : Meaning S C) where
+  pub fault_there : (bytes : List ℕ) (start at place : ℕ) (part : Stored S C) (payload : List ℕ) (next : ℕ) → place ≡ at → ReplaysUpTo m bytes start at part → wal_record.read bytes at ≡ Ok (payload, next)
+      → (raft_replay m).after part payload ≡ None → FaultAt m bytes start place
+  fault_there bytes start at place part payload next here so read none = subst (FaultAt m bytes start) (sym here) (no_change part payload next so read none)
+
+  pub tail_there : (bytes : List ℕ) (start at place : ℕ) (part : Stored S C) (x : ℕ) → at ≡ place → ReplaysUpTo m bytes start at part → wal_record.read bytes at ≡ Err x
+      → (MayBeTorn (drop at bytes) → ⊥) → FaultAt m bytes start place
+  tail_there bytes start at place part x here so read whole = subst (FaultAt m bytes start) here (no_tail part x so read whole)
+
+  pub bad_behind : {T : Type 0} (header bytes : List ℕ) (stored : Option (List ℕ)) (r : Result T Fault) → stored ≡ Some bytes
+      → IfErr r (λ fault. (place : ℕ) → fault ≡ faults.BadStore place → FaultAt m bytes (length header) place) → IfErr r (λ fault. (place : ℕ) → fault ≡ faults.BadStore place → IsBadStore m header stored place)
+  bad_behind header bytes stored (Ok x) is why = tt
+  bad_behind header bytes stored (Err fault) is why = λ place e. subst (λ o. IsBadStore m header o place) (sym is) (inl (why place e))

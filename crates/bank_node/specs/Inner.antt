@@ -1,4 +1,3 @@
 -- Words of private contracts.
 pub mod Refusals
 pub mod Before
-pub mod Reading

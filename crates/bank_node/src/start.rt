@@ -1,6 +1,6 @@
 //! What a server starts from.
 
-ghost use Rattle.std.specs.Prelude.{◌≡◌, ◌≤◌, Some, true, IfErr, IfOk, OnOk, drop, length, option_map};
+ghost use Rattle.std.specs.Prelude.{◌≡◌, ◌≤◌, ℕ, None, Some, true, IfErr, IfOk, OnOk, drop, length, option_map};
 ghost use Rattle.rows.specs.Versions.{newest};
 ghost use Rattle.fields_model.specs.Format.{Gives, whole};
 ghost use Rattle.raft_snapshot.specs.Texts.{front};
@@ -8,7 +8,7 @@ ghost use Rattle.raft_core.specs.Steps.{IsGroupMember, Represents, Stores};
 ghost use Rattle.raft_core.specs.StoredParts.{stored_part};
 ghost use Rattle.raft_model.specs.Rafts.{Raft as AnyRaft, restarted};
 ghost use Rattle.bank_node.specs.Records.{raft_replay};
-ghost use Rattle.bank_node.specs.Starts.{ReplaysTo, IsStored};
+ghost use Rattle.bank_node.specs.Starts.{FaultAt, IsBadStore, IsStored, ReplaysTo};
 ghost use Rattle.bank_node.specs.Statuses.{is_of_beginning};
 ghost use Rattle.bank_node.specs.declared.fault.Fault.TheVariants as faults;
 
@@ -35,6 +35,8 @@ pub fn begin<M: Machine>(
     ensures server { IfOk result (λ server. (s : AnyRaft M.Command) →
         Stores M.meaning (stored_part server) s → Represents M.meaning server (restarted s)) }
     ensures usage { IfErr result (λ fault. fault ≡ faults.Usage → IsGroupMember size me → ⊥) }
+    ensures fault { IfErr result (λ fault. (place : ℕ) → fault ≡ faults.BadStore place →
+        IsBadStore M.meaning header.now (option_map (λ text. text.now) stored.entry) place) }
     ensures early { IfErr result (λ fault. is_of_beginning fault ≡ true) }
 {
     let stable = stable_of(alloc, header, stored)?;
@@ -56,6 +58,8 @@ fn stable_of<M: Machine>(
     ensures stored { IfOk result (IsStored M.meaning header.now
         (option_map (λ text. text.now) stored.entry)) }
     ensures usage { IfErr result (λ fault. fault ≡ faults.Usage → ⊥) }
+    ensures fault { IfErr result (λ fault. (place : ℕ) → fault ≡ faults.BadStore place →
+        IsBadStore M.meaning header.now (option_map (λ text. text.now) stored.entry) place) }
     ensures early { IfErr result (λ fault. is_of_beginning fault ≡ true) }
 {
     let Some(bytes) = stored else {
@@ -77,6 +81,8 @@ fn stable_of<M: Machine>(
 /// The whole of what was stored, from the payload of a journal's first record.
 fn whole_of<M: Machine>(alloc: Global, payload: &[u8], at: usize) -> Result<Stable<M>, Fault>
     ensures whole { IfOk result (λ s. (raft_replay M.meaning).whole payload.now ≡ Some s) }
+    ensures fault { IfErr result (λ fault. (place : ℕ) → fault ≡ faults.BadStore place →
+        (place ≡ at) × ((raft_replay M.meaning).whole payload.now ≡ None)) }
     ensures early { IfErr result (λ fault. is_of_beginning fault ≡ true) }
     ensures usage { IfErr result (λ fault. fault ≡ faults.Usage → ⊥) }
 {
@@ -108,6 +114,8 @@ fn follow<M: Machine>(
 ) -> Result<(), Fault>
     ensures after { OnOk result
         ((raft_replay M.meaning).after stable.old payload.now ≡ Some stable.new) }
+    ensures fault { IfErr result (λ fault. (place : ℕ) → fault ≡ faults.BadStore place →
+        (place ≡ at) × ((raft_replay M.meaning).after stable.old payload.now ≡ None)) }
     ensures early { IfErr result (λ fault. is_of_beginning fault ≡ true) }
     ensures usage { IfErr result (λ fault. fault ≡ faults.Usage → ⊥) }
 {
@@ -128,6 +136,8 @@ fn follow<M: Machine>(
 fn from_journal<M: Machine>(alloc: Global, bytes: &[u8], start: usize) -> Result<Stable<M>, Fault>
     requires { start ≤ length bytes.now }
     ensures kept { IfOk result (λ s. ReplaysTo M.meaning (drop start bytes.now) s) }
+    ensures fault { IfErr result (λ fault. (place : ℕ) → fault ≡ faults.BadStore place →
+        FaultAt M.meaning bytes.now start place) }
     ensures early { IfErr result (λ fault. is_of_beginning fault ≡ true) }
     ensures usage { IfErr result (λ fault. fault ≡ faults.Usage → ⊥) }
 {

@@ -1,6 +1,7 @@
-use Rattle.std.proofs.Common.{arith}
+use Rattle.std.proofs.Common.{◌≡◌, Err, arith, rules}
 use Rattle.journal.proofs.Scanning.{one_further}
-use Rattle.bank_node.proofs.Starting.{read_first, read_more, read_all}
+use Rattle.bank_node.specs.Starts.{no_record, no_whole}
+use Rattle.bank_node.proofs.Starting.{read_first, read_more, read_all, fault_there, tail_there}
 use Rattle.bank_node.proofs.start.from_journal.Goals as goal
 
 pub records-init : goal.records-init
@@ -30,3 +31,31 @@ returns-then-may_be_torn-clause-kept g c =
     let none = c.in_default-next_record.ensures in
     read_all g.M.Machine.meaning c.args.bytes.now (λ i. omega (arith, c.type_inv.bytes i)) c.args.start c.records.at none.0 c.records.stable none.1
     c.if-may_be_torn.ensures c.records.invariant.so
+
+pub returns-in_default-clause-fault : goal.returns-in_default-clause-fault
+returns-in_default-clause-fault g c = λ place is.
+    let here : place ≡ c.args.start = cc is in
+    no_record c.in_default.ensures.0 here c.in_default.ensures.1
+
+pub returns-in_err-stable-clause-fault : goal.returns-in_err-stable-clause-fault
+returns-in_err-stable-clause-fault g c =
+    let cause = c.in_err-stable.field-0.0 in
+    let is : c.from_residual.result ≡ Err cause = search rules in
+    rw is (λ place e.
+    let why = c.in_err-stable.ensures.fault place e in
+    no_whole c.in-Some.payload.now c.in-Some.next why.0 c.in-Some.ensures why.1)
+
+pub returns-in_err-follow-clause-fault : goal.returns-in_err-follow-clause-fault
+returns-in_err-follow-clause-fault g c =
+    let cause = c.in_err-follow.field-0.0 in
+    let is : c.from_residual-in_err-follow.result ≡ Err cause = search rules in
+    let read = c.in-Some-next_record in
+    rw is (λ place e.
+    let why = c.in_err-follow.ensures.fault place e in
+    fault_there g.M.Machine.meaning c.args.bytes.now c.args.start c.records.at place c.records.stable read.payload.now read.next why.0 c.records.invariant.so read.ensures why.1)
+
+pub returns-else-may_be_torn-clause-fault : goal.returns-else-may_be_torn-clause-fault
+returns-else-may_be_torn-clause-fault g c = λ place is.
+    let none = c.in_default-next_record.ensures in
+    let here : c.records.at ≡ place = cc is in
+    tail_there g.M.Machine.meaning c.args.bytes.now c.args.start c.records.at place c.records.stable none.0 here c.records.invariant.so none.1 c.if-may_be_torn.ensures

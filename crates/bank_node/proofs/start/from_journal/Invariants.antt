@@ -1,5 +1,5 @@
 use Rattle.std.proofs.Common.{◌≤◌, ◌-◌, length}
-use Rattle.bank_node.specs.Inner.Reading.{ReplaysUpTo}
+use Rattle.bank_node.specs.Reading.{ReplaysUpTo}
 use Rattle.bank_node.proofs.start.from_journal.Given as goal
 
 -- what the records up to here stand for
