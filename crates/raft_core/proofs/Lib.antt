@@ -13,3 +13,4 @@ pub mod Stepping
 pub mod Stores
 pub mod Tickets
 pub mod Follows
+pub mod Telling

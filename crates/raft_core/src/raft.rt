@@ -15,8 +15,8 @@ ghost use Rattle.raft_core.specs.Steps.{Represents, Stores, Takes, role_of, IsGr
 ghost use Rattle.raft_core.specs.Refusals.{refusal, HidesNothing, IsRefused, RefusalLeaves, RefusalShows, Stays, WhyNot};
 ghost use Rattle.raft_core.specs.Inner.Stops.{EndsRefused};
 ghost use Rattle.raft_core.specs.Inner.Views.{with_server};
-ghost use Rattle.raft_core.specs.Inner.Moves.{MovesBy};
-ghost use Rattle.raft_core.specs.StoredParts.{stored_part};
+ghost use Rattle.raft_core.specs.Inner.Moves.{MovesBy, IsReadIn};
+ghost use Rattle.raft_core.specs.StoredParts.{stored_part, MayKeepLog};
 ghost use Rattle.raft_core.specs.Tickets.{HasTermAt, HasNoTermAt, standing_of};
 ghost use Rattle.raft_core.specs.RaftView.{SameNumber, IsCrashOf, KeepsAhead};
 ghost use Rattle.raft_snapshot.specs.Shown.{IsShown, shown_state};
@@ -229,6 +229,21 @@ impl<M: Machine> Raft<M> {
         self.term
     }
 
+    /// The vote that it gave in its term, if it did, also while it is down.
+    pub fn vote(&self) -> Option<ServerId>
+        ensures { result ≡ self.now.server.vote }
+    {
+        self.vote
+    }
+
+    /// How many entries its snapshot covers, also while it is down: the index of the last one.
+    pub fn covered(&self) -> Index
+        ensures value { result ≡ self.now.base.index }
+        ensures within { result ≤ length self.now.server.log }
+    {
+        self.log.covered()
+    }
+
     /// The index of the last entry of its log, also while it is down; 0 where there is none.
     pub fn last(&self) -> Index
         ensures value { (s : AnyRaft M.Command) → Represents M.meaning self.now s →
@@ -394,6 +409,13 @@ impl<M: Machine> Raft<M> {
         let _ = self.log.covered();
     }
 
+    /// What is committed is in the log.
+    fn committed(&self)
+        ensures { self.now.server.commit ≤ length self.now.server.log }
+    {
+        let _ = self.log.covered();
+    }
+
     /// A greater term makes the server a follower of that term, without a vote or a known leader.
     fn meet(&mut self, term: Term)
         requires { is_up self.old.server.mode ≡ true }
@@ -422,6 +444,7 @@ impl<M: Machine> Raft<M> {
             self.new outbox.old outbox.new) }
         ensures admitted { OnOk result (
             refusal M.meaning self.old.size self.old.me self.old.server (handed input.entry) ≡ None) }
+        ensures read { OnOk result (IsReadIn M.meaning (handed input.entry)) }
         ensures kept { OnOk result (KeepsAhead self.old self.new) }
         ensures stopped { IfErr result (λ cause.
             EndsRefused M.meaning self.old (handed input.entry) cause self.new outbox.old outbox.new) }
@@ -497,6 +520,7 @@ impl<M: Machine> Raft<M> {
         ensures admitted { OnOk result ((s : AnyRaft M.Command) → Represents M.meaning self.old s →
             refusal M.meaning self.old.size self.old.me s (handed input.entry) ≡ None) }
         ensures kept { OnOk result (KeepsAhead self.old self.new) }
+        ensures keeps { OnOk result (MayKeepLog (handed input.entry) self.old self.new) }
         ensures refused { IfErr result (λ cause. (s : AnyRaft M.Command) →
             Represents M.meaning self.old s →
             IsRefused M.meaning self.old.size self.old.me s (handed input.entry) cause) }
@@ -529,6 +553,7 @@ impl<M: Machine> Raft<M> {
         ensures admitted { OnOk result ((s : AnyRaft M.Command) → Represents M.meaning self.old s →
             refusal M.meaning self.old.size self.old.me s (handed input.entry) ≡ None) }
         ensures kept { OnOk result (KeepsAhead self.old self.new) }
+        ensures keeps { OnOk result (MayKeepLog (handed input.entry) self.old self.new) }
         ensures refused { IfErr result (λ cause. (s : AnyRaft M.Command) →
             Represents M.meaning self.old s →
             IsRefused M.meaning self.old.size self.old.me s (handed input.entry) cause) }
@@ -548,6 +573,7 @@ impl<M: Machine> Raft<M> {
     {
         let before = outbox.len();
         self.shown();
+        self.committed();
         match self.take(input, outbox, watch) {
             Ok(()) => {
                 self.shown();

@@ -13,3 +13,6 @@ pub mod Watches
 pub mod Seen
 pub mod TextRules
 pub mod TextLaws
+pub mod TermsOfMerges
+pub mod TermsOfSteps
+pub mod Changes

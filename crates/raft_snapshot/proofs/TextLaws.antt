@@ -4,12 +4,11 @@ use Rattle.std.proofs.Math.Nat.{le_refl, mul-le-mul_right}
 use Rattle.std.proofs.lemmas.Bool.{and_parts, eqb-true, eq-eqb, lt-ltb, cases_eq, ne_eqb}
 use Rattle.std.proofs.lemmas.List.{append_cancel_left, append-nil, drop_all, drop_at, get_or-drop}
 use Rattle.std.proofs.lemmas.Slice.Eq.{bytes_eq-Decides}
-use Rattle.std.specs.Prelude.{IfOk, OnOk}
+use Rattle.std.specs.Prelude.{IfOk}
 use Rattle.rows.specs.Versions.{newest}
 use Rattle.rows.specs.declared.refusal.Refusal.{Refusal}
 use Rattle.rows.specs.declared.refusal.Refusal.TheVariants as refusals
-use Rattle.rows.specs.declared.refusal.NoMemory.{NoMemory}
-use Rattle.fields_model.specs.Format.{◌>>=◌, Gives, Refuses, Writes, Format, spelled, number_at, number, placed, whole, moved, IsBytes, Stands, Lawful}
+use Rattle.fields_model.specs.Format.{◌>>=◌, Gives, Refuses, Format, spelled, number_at, number, placed, whole, moved, IsBytes, Stands, Lawful}
 use Rattle.fields_model.specs.Fields.{term}
 use Rattle.fields_model.specs.Services.{leader_of, leader_number}
 use Rattle.fields_model.proofs.FormatLaws.{bind_ok, ok_is, seq_inside, number_lawful, then_lawful, depends_lawful, made_lawful, list_lawful, coded_lawful, kept_lawful, past}
@@ -21,7 +20,6 @@ use Rattle.machine_model.specs.Entries.{entry}
 use Rattle.machine_model.specs.declared.entry.Entry.{Entry}
 use Rattle.machine_model.proofs.EntryLaws.{entry_lawful}
 use Rattle.raft_snapshot.specs.Bases.{IsSnapshot, blank}
-use Rattle.raft_snapshot.specs.Kept.{kept}
 use Rattle.raft_snapshot.specs.Stored.{Stored}
 use Rattle.raft_snapshot.specs.Texts.{vote, covered, most_behind, entries, Front, front, stored_of, parts_of, stable, stable_text, StableFits, IsStableText, agrees, state_offset, stable_at}
 use Rattle.raft_snapshot.specs.Inner.Faults.{moved_fault}
@@ -301,19 +299,3 @@ module _ {S C : Type 0} (m : Meaning S C) (law : LawfulMachine m) (bytes : List 
 
     pub snapshot_read : agrees m f.index state ≡ true → IsSnapshot m (record { index = f.index; term = f.index_term; state = state })
     snapshot_read so = snapshot_of m law f.index f.index_term state none_is_none (law.states_stay version state found_state.0) so
-
--- ---- writing
-
--- behind the front comes the state, and that is the text
-pub written : {S C : Type 0} (m : Meaning S C) (s : Stored S C) (old middle new : List ℕ) (r : Result (Unit {0}) NoMemory)
-    → (front (m.commands newest)).Fits (parts_of s).0 → IsSnapshot m s.log.base → s.log ≡ kept m s.log.base (drop s.log.base.index s.log.entries)
-    → middle ≡ (old ++ spelled 1 newest) ++ (front (m.commands newest)).text (parts_of s).0 → Writes (m.states newest) s.log.base.state r middle new → OnOk r (StableFits m newest s × (new ≡ old ++ stable_text m newest s))
-written {S} {C} m s old middle new (Ok _) fits snapshot shows came state =
-    let with_log : _ → Stored S C = λ log. record { term = s.term; vote = s.vote; log = log } in
-    let first = spelled 1 newest in
-    let text = (front (m.commands newest)).text (parts_of s).0 in
-    let last = (m.states newest).text s.log.base.state in (
-      record { known = (omega arith, omega arith); fits = ((fits, state.0), ap (λ log. Some (with_log log)) (sym shows)); snapshot = snapshot },
-      state.1 ∙ ap (λ (l : List ℕ). l ++ last) came ∙ append_assoc (old ++ first) text last ∙ append_assoc old first (text ++ last),
-    )
-written m s old middle new (Err _) fits snapshot shows came state = tt

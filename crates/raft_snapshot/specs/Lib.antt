@@ -1,4 +1,5 @@
 pub mod Bases
+pub mod Changes
 pub mod Filled
 pub mod Inner
 pub mod Kept

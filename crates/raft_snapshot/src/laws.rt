@@ -1,14 +1,16 @@
 //! Laws of servers whose covered entries are blank, and of the text of what a server stores, for
 //! every machine. Each function has an empty body: what it says is its contract.
-ghost use Rattle.std.specs.Prelude.{◌≡◌, ◌≤◌, ◌++◌, ℕ, List, length, take, drop, nat_le, true, false, if◌then◌else◌, Ok};
+ghost use Rattle.std.specs.Prelude.{◌≡◌, ◌≤◌, ◌++◌, ℕ, List, length, take, drop, nat_le, true, false, if◌then◌else◌, Ok, Some};
 ghost use Rattle.fields_model.specs.Format.{IsBytes, Lawful};
 ghost use Rattle.machine_model.specs.declared.entry.Entry.{Entry};
-ghost use Rattle.raft_model.specs.Logs.{last_term, state_after};
+ghost use Rattle.raft_model.specs.Logs.{last_term, merge, state_after};
 ghost use Rattle.raft_model.specs.Messages.{Install};
-ghost use Rattle.raft_model.specs.Rafts.{Raft, beat_body, met, crashed, restarted, compacted};
+ghost use Rattle.raft_model.specs.Rafts.{Raft, RaftTurn, beat_body, met, crashed, restarted, compacted};
 ghost use Rattle.raft_model.specs.Steps.{step, receives, Input};
 ghost use Rattle.raft_snapshot.specs.Bases.{Base, IsBaseOf, state_from};
 ghost use Rattle.raft_snapshot.specs.Filled.{refilled, filled, filled_turn, filled_result, MayFill, IsPlainInput, takes_snapshot};
+ghost use Rattle.raft_snapshot.specs.Changes.{TermsTell, SharesEntries, changed_part, log_change};
+ghost use Rattle.raft_snapshot.specs.Kept.{Kept};
 ghost use Rattle.raft_snapshot.specs.Stored.{Stored};
 ghost use Rattle.raft_snapshot.specs.Texts.{stable, stable_at, stable_text, IsStableText, StableFits};
 ghost use Rattle.raft_snapshot.specs.Shown.{IsShown, StandsFor, shown_state, turn_of, base_after, Received, compacted_base, compacted_shown};
@@ -99,4 +101,28 @@ pub fn stable_texts_are_whole<M: Machine>()
     ensures apart { (v w : ℕ) (s t : Stored M M.Command) (x y : List ℕ)
         → StableFits M.meaning v s → StableFits M.meaning w t
         → stable_text M.meaning v s ++ x ≡ stable_text M.meaning w t ++ y → (v ≡ w) × (s ≡ t) }
+{}
+
+/// Behind its commit index, as far as the terms of a server's log before and after a step are the
+/// same, so are the entries, where its snapshot covers as many: what is to be stored of the step is
+/// found by terms alone. It is so too where a leader's entries are taken over.
+pub fn steps_keep_terms_told<M: Machine>()
+    ensures merged { (commit prev : ℕ) (log entries : List (Entry M.Command)) →
+        commit ≤ length log → prev ≤ length log →
+        TermsTell commit log (merge commit prev log entries) }
+    ensures steps { (n me : ℕ) (s : Raft M.Command) → s.commit ≤ length s.log →
+        s.covered ≤ s.commit → (input : Input M.Command) (turn : RaftTurn M.Command) →
+        step M.meaning n me s input ≡ Ok turn → turn.server.covered ≡ s.covered →
+        TermsTell s.commit s.log turn.server.log }
+{}
+
+/// A change leads from one stored part to another where so many first entries stay, and changes one
+/// after the other keep what each of them keeps.
+pub fn changes_lead<M: Machine>()
+    ensures change { (old new : Stored M M.Command) (keep : ℕ) →
+        SharesEntries old.log new.log keep →
+        changed_part old (log_change new.term new.vote new.log keep) ≡ Some new }
+    ensures over { (old mid new : Kept M M.Command) (j k i : ℕ) →
+        SharesEntries old mid j → SharesEntries mid new k → i ≤ j → i ≤ k →
+        old.base.index ≤ i → SharesEntries old new i }
 {}

@@ -18,13 +18,14 @@ mod writing;
 pub use again::command_again;
 pub use apply::{apply_range, apply_range_watched};
 pub use laws::{
-    servers_are_shown, snapshots_are_received, stable_texts_are_whole, steps_are_filled,
+    changes_lead, servers_are_shown, snapshots_are_received, stable_texts_are_whole,
+    steps_are_filled, steps_keep_terms_told,
 };
 pub use log::Log;
 pub use merge::adopt;
 pub use project::{brought_on, projection};
-pub use reading::read_stable;
+pub use reading::{Front, read_change, read_stable, take_change};
 pub use snapshot::Snapshot;
 pub use stable::Stable;
 pub use watch::{Unwatched, Watch};
-pub use writing::write_stable;
+pub use writing::{write_change, write_parts, write_stable};

@@ -1,9 +1,10 @@
 //! What a server stores, read from bytes.
 
-ghost use Rattle.std.specs.Prelude.{◌≡◌, ◌+◌, ◌^◌, ◌<◌, ◌≤◌, ℕ, Ok, length, drop, IfOk, bytes_eq};
+ghost use Rattle.std.specs.Prelude.{◌≡◌, ◌+◌, ◌^◌, ◌<◌, ◌≤◌, ℕ, Ok, Some, None, length, drop, IfOk, OnErr, MatchBool, bytes_eq};
 ghost use Rattle.rows.specs.Versions.{newest};
 ghost use Rattle.fields_model.specs.Format.{Gives, GivesExactly, number_at, whole};
 ghost use Rattle.raft_snapshot.specs.Bases.{IsSnapshot};
+ghost use Rattle.raft_snapshot.specs.Changes.{changed_part};
 ghost use Rattle.raft_snapshot.specs.Stored.{Stored};
 ghost use Rattle.raft_snapshot.specs.Texts.{vote, covered, most_behind, entries, front, stored_of, agrees, stable_at, stable_text, IsStableText, StableFits};
 ghost use Rattle.raft_snapshot.specs.Inner.Faults.{moved_fault};
@@ -17,9 +18,11 @@ use rows::{Index, NoMemory, Refusal, Sequence, ServerId, Term, Version};
 use std::alloc::Global;
 use std::marker::Model;
 
-/// What stands in front of the state.
+/// What stands in front of the state in the text of what a server stores; by itself it is a change
+/// of that: the term, the vote, how many entries stay, the last one's term, and the entries behind
+/// them.
 #[derive(Drop)]
-struct Front<M: Machine> {
+pub struct Front<M: Machine> {
     term: Term,
     vote: Option<ServerId>,
     index: Index,
@@ -128,6 +131,38 @@ fn read_front<M: Machine>(
         },
         end,
     ))
+}
+
+/// A change that stands at a place of some bytes, as `write_change` puts it, and the place behind
+/// it. Bytes that are none are refused with the offset of the first field that is cut or out of its
+/// range. It takes memory for what it reads, and never for a count that it has only read.
+pub fn read_change<M: Machine>(
+    alloc: Global,
+    bytes: &[u8],
+    at: usize,
+) -> Result<(Front<M>, usize), Refusal>
+    ensures { Gives result ((front (M.meaning.commands newest)).read bytes.now at) }
+{
+    read_front(Version::newest(), alloc, bytes, at)
+}
+
+/// Makes of what is stored what a change makes of it. The answer is no, and nothing changes, where
+/// the change's entries do not follow: the log does not reach them, or has another term in front of
+/// them, or its snapshot covers more. Without memory nothing changes either.
+pub fn take_change<M: Machine>(stable: &mut Stable<M>, change: Front<M>) -> Result<bool, NoMemory>
+    ensures ok { IfOk result (λ done. MatchBool done
+        (changed_part stable.old change ≡ Some stable.new)
+        ((changed_part stable.old change ≡ None) × (stable.new ≡ stable.old))) }
+    ensures err { OnErr result (stable.new ≡ stable.old) }
+{
+    let Front {
+        term,
+        vote,
+        index,
+        index_term,
+        entries,
+    } = change;
+    stable.follow(term, vote, index, index_term, entries.into_vec())
 }
 
 /// What stands from a place on.

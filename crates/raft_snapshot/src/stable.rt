@@ -1,9 +1,11 @@
-ghost use Rattle.std.specs.Prelude.{◌≡◌, None, []};
+ghost use Rattle.std.specs.Prelude.{◌≡◌, ◌+◌, ◌^◌, ◌<◌, Some, None, [], length, IfOk, OnErr, MatchBool};
+ghost use Rattle.raft_snapshot.specs.Changes.{changed_part};
+ghost use Rattle.raft_snapshot.specs.Texts.{Front};
 ghost use Rattle.raft_snapshot.specs.Kept.{kept};
 
 use crate::log::Log;
-use machine::Machine;
-use rows::{ServerId, Term};
+use machine::{Coded, Entry, Machine};
+use rows::{Index, NoMemory, ServerId, Term};
 use std::alloc::Global;
 use std::marker::Model;
 
@@ -67,6 +69,39 @@ impl<M: Machine> Stable<M> {
         ensures { result.now ≡ self.now.log }
     {
         &self.log
+    }
+
+    /// Makes of it what a change of these parts makes. The answer is no, and nothing changes, where
+    /// the entries do not follow. Without memory nothing changes either.
+    pub(crate) fn follow(
+        &mut self,
+        term: Term,
+        vote: Option<ServerId>,
+        index: Index,
+        index_term: Term,
+        entries: Vec<Entry<Coded<M>>>,
+    ) -> Result<bool, NoMemory>
+        requires { index + length entries.items < 2 ^ 40 }
+        ensures ok { let change : Front M.Command = record {
+          term = term;
+          vote = vote;
+          index = index;
+          index_term = index_term;
+          entries = entries.items;
+        } in
+            IfOk result (λ done. MatchBool done
+            (changed_part self.old change ≡ Some self.new)
+            ((changed_part self.old change ≡ None) × (self.new ≡ self.old))) }
+        ensures err { OnErr result (self.new ≡ self.old) }
+    {
+        if index.get() < self.log.covered().get() || !self.log.holds(index.get(), index_term) {
+            return Ok(false);
+        }
+        let _last = self.log.last();
+        self.log.replace_behind(index.get(), entries)?;
+        self.term = term;
+        self.vote = vote;
+        Ok(true)
     }
 
     /// The term, the vote in it, and the log.

@@ -1,16 +1,18 @@
 //! What a server stores, written as bytes.
 
-ghost use Rattle.std.specs.Prelude.{◌≡◌, ◌+◌, ◌^◌, ◌<◌, ◌++◌, length, OnOk, OnErr};
+ghost use Rattle.std.specs.Prelude.{◌≡◌, ◌+◌, ◌^◌, ◌<◌, ◌≤◌, ◌++◌, length, OnOk, OnErr};
 ghost use Rattle.rows.specs.Versions.{newest};
 ghost use Rattle.fields_model.specs.Format.{Grows, Puts};
 ghost use Rattle.fields_model.specs.Services.{leader_number};
-ghost use Rattle.raft_snapshot.specs.Texts.{vote, covered, entries, front, parts_of, stable_text, StableFits};
+ghost use Rattle.raft_snapshot.specs.Changes.{log_change};
+ghost use Rattle.raft_snapshot.specs.Stored.{Stored};
+ghost use Rattle.raft_snapshot.specs.Texts.{vote, covered, entries, front, stable_text, StableFits};
 
-use crate::snapshot::Snapshot;
+use crate::log::Log;
 use crate::stable::Stable;
 use fields::{write_index, write_items, write_term, write_u8, write_u64};
 use machine::{Coded, Entry, Machine};
-use rows::{Index, NoMemory, ServerId, Version};
+use rows::{Index, NoMemory, ServerId, Term, Version};
 
 /// The number of the server that has the vote, from 1 to 5; 0 where none was given.
 fn vote_number(voted: Option<ServerId>) -> u8
@@ -31,11 +33,12 @@ fn append_vote(voted: Option<ServerId>, out: &mut Vec<u8>) -> Result<(), NoMemor
 }
 
 /// Puts to the end how many entries are covered, and the last one's term.
-fn append_covered<M: Machine>(base: &Snapshot<M>, out: &mut Vec<u8>) -> Result<(), NoMemory>
-    ensures { Puts covered (base.now.index, base.now.term) result out.old.items out.new.items }
+fn append_covered(index: Index, term: Term, out: &mut Vec<u8>) -> Result<(), NoMemory>
+    requires { index ≡ 0 → term ≡ 0 }
+    ensures { Puts covered (index, term) result out.old.items out.new.items }
 {
-    write_index(&base.index(), out)?;
-    write_term(&base.term(), out)
+    write_index(&index, out)?;
+    write_term(&term, out)
 }
 
 /// Puts the entries behind those that are covered to the end, behind their count.
@@ -53,32 +56,93 @@ fn append_entries<M: Machine>(
     write_items(behind, out)
 }
 
-/// Puts what stands in front of the state to the end.
-#[tactic(auto, using(crate::proofs::TextRules::appends))]
-fn append_front<M: Machine>(stable: &Stable<M>, out: &mut Vec<u8>) -> Result<(), NoMemory>
-    ensures { Puts (front (M.meaning.commands newest)) (parts_of stable.now).0 result
+/// Puts to the end a term, a vote, how many entries of a log stay, the last one's term, and the
+/// entries behind them.
+#[tactic(auto, using(crate::proofs::TextRules::appends, crate::proofs::Logs::term_at_zero))]
+fn append_change<M: Machine>(
+    term: Term,
+    voted: Option<ServerId>,
+    log: &Log<M>,
+    keep: Index,
+    out: &mut Vec<u8>,
+) -> Result<(), NoMemory>
+    requires covered { log.now.base.index ≤ keep }
+    requires within { keep ≤ length log.now.entries }
+    ensures { Puts (front (M.meaning.commands newest)) (log_change term voted log.now keep) result
         out.old.items out.new.items }
 {
-    let log = stable.log();
-    write_term(&stable.term(), out)?;
-    append_vote(stable.vote(), out)?;
-    append_covered(log.snapshot(), out)?;
-    append_entries(log.covered(), log.tail(), out)
+    let _last = log.last();
+    let Some(kept_term) = log.term_at(keep.get()) else {
+        unreachable!()
+    };
+    write_term(&term, out)?;
+    append_vote(voted, out)?;
+    append_covered(keep, kept_term, out)?;
+    append_entries(keep, log.behind(keep.get()), out)
 }
 
-/// Puts what is stored to the end; after an error a part of it may stand there.
+/// Puts to the end what led to this term, vote and log, where so many first entries were the same
+/// before, or changes nothing: the term, the vote, the number of these entries, the last one's
+/// term, and the entries behind them. It costs what these entries do, and not the log.
+pub fn write_change<M: Machine>(
+    term: Term,
+    vote: Option<ServerId>,
+    log: &Log<M>,
+    keep: Index,
+    out: &mut Vec<u8>,
+) -> Result<(), NoMemory>
+    requires covered { log.now.base.index ≤ keep }
+    requires within { keep ≤ length log.now.entries }
+    ensures ok { OnOk result ((front (M.meaning.commands newest)).Fits (log_change term vote log.now keep)
+        × (out.new.items ≡ out.old.items
+        ++ (front (M.meaning.commands newest)).text (log_change term vote log.now keep))) }
+    ensures err { OnErr result (out.new.items ≡ out.old.items) }
+{
+    let start = out.len();
+    let done = append_change(term, vote, log, keep, out);
+    if done.is_err() {
+        out.truncate(start);
+    }
+    done
+}
+
+/// Puts what is stored, of its parts, to the end; after an error a part of it may stand there.
 #[tactic(auto, using(crate::proofs::TextRules::appends))]
-fn append_stable<M: Machine>(stable: &Stable<M>, out: &mut Vec<u8>) -> Result<(), NoMemory>
-    ensures ok { OnOk result (StableFits M.meaning newest stable.now
-        × (out.new.items ≡ out.old.items ++ stable_text M.meaning newest stable.now)) }
+fn append_parts<M: Machine>(
+    term: Term,
+    voted: Option<ServerId>,
+    log: &Log<M>,
+    out: &mut Vec<u8>,
+) -> Result<(), NoMemory>
+    ensures ok { let stored : Stored M M.Command = record { term = term; vote = voted; log = log.now } in
+        OnOk result (StableFits M.meaning newest stored
+        × (out.new.items ≡ out.old.items ++ stable_text M.meaning newest stored)) }
     ensures err { OnErr result (Grows out.old.items out.new.items) }
 {
-    let log = stable.log();
-    let _covered = log.covered();
-    let _tail = log.tail();
+    let _last = log.last();
     write_u8(&Version::newest().number(), out)?;
-    append_front(stable, out)?;
+    append_change(term, voted, log, log.covered(), out)?;
     log.state().save(out)
+}
+
+/// Puts the one text of what a server stores, of its parts, to the end, or changes nothing.
+pub fn write_parts<M: Machine>(
+    term: Term,
+    vote: Option<ServerId>,
+    log: &Log<M>,
+    out: &mut Vec<u8>,
+) -> Result<(), NoMemory>
+    ensures ok { let stored : Stored M M.Command = record { term = term; vote = vote; log = log.now } in
+        OnOk result (StableFits M.meaning newest stored
+        × (out.new.items ≡ out.old.items ++ stable_text M.meaning newest stored)) }
+    ensures err { OnErr result (out.new.items ≡ out.old.items) }
+{
+    let start = out.len();
+    let done = append_parts(term, vote, log, out);
+    if done.is_err() {
+        out.truncate(start);
+    }
+    done
 }
 
 /// Puts the one text of what a server stores to the end, or changes nothing: the version, which is
@@ -89,10 +153,5 @@ pub fn write_stable<M: Machine>(stable: &Stable<M>, out: &mut Vec<u8>) -> Result
         × (out.new.items ≡ out.old.items ++ stable_text M.meaning newest stable.now)) }
     ensures err { OnErr result (out.new.items ≡ out.old.items) }
 {
-    let start = out.len();
-    let done = append_stable(stable, out);
-    if done.is_err() {
-        out.truncate(start);
-    }
-    done
+    write_parts(stable.term(), stable.vote(), stable.log(), out)
 }

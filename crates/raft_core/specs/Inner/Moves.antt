@@ -74,3 +74,16 @@ MovesBy m old (Bytes bytes) new before after = MovesFrame m old bytes new before
 MovesBy m old (Own Beat) new before after = (new ≡ old) × Beats m old before after
 MovesBy m old (Own Compact) new before after = (after ≡ before) × Compacts m old new
 MovesBy m old (Own input) new before after = Moves m old.base old input new before after
+
+-- the bytes are the frame of a message that was read, and this is what that shows
+pub record WasRead {S C : Type 0} (m : Meaning S C) (bytes : List ℕ) : Type 0 where
+  pub read : WireMessage S C
+  pub fits : MessageFits m read
+  pub text : bytes ≡ message_text m read
+  pub message : Message C
+  pub shows : Shows m read message
+
+-- what is handed in was read, if it is bytes
+abbrev pub IsReadIn : {S C : Type 0} → Meaning S C → Handed C → Type 0
+IsReadIn m (Bytes bytes) = WasRead m bytes
+IsReadIn m (Own input) = Unit {0}

@@ -8,7 +8,7 @@ ghost use Rattle.wire.specs.Messages.{log_body};
 ghost use Rattle.raft_core.specs.Frames.{log_message};
 ghost use Rattle.raft_core.specs.Steps.{Represents, TakesMessage};
 ghost use Rattle.raft_core.specs.Inner.Turns.{TurnTaken, LackedMemory};
-ghost use Rattle.raft_core.specs.Inner.Moves.{MovesMessage, MovesFrame, base_left};
+ghost use Rattle.raft_core.specs.Inner.Moves.{MovesMessage, MovesFrame, WasRead, base_left};
 ghost use Rattle.raft_core.specs.Inner.Stops.{FrameStops, MessageStops};
 ghost use Rattle.raft_core.specs.Refusals.{frame_refusal, misdirected, message_fault, message_refusal, IsMessageRefused, MessageRefusalLeaves, MessageStays, RefusalShows};
 ghost use Rattle.raft_core.specs.RaftView.{SameNumber, KeepsAhead};
@@ -168,6 +168,7 @@ impl<M: Machine> Raft<M> {
     }
 
     /// A frame comes to a server that is up.
+    #[tactic(auto, using(crate::proofs::Telling::was_read))]
     pub(super) fn take_frame<W: Watch<M>>(
         &mut self,
         bytes: &[u8],
@@ -180,6 +181,7 @@ impl<M: Machine> Raft<M> {
             (MovesFrame M.meaning self.old bytes.now self.new outbox.old outbox.new) }
         ensures admitted { OnOk result (frame_refusal M.meaning self.old.size self.old.me bytes.now
             ≡ None) }
+        ensures read { OnOk result (WasRead M.meaning bytes.now) }
         ensures kept { OnOk result (KeepsAhead self.old self.new) }
         ensures stopped { IfErr result (λ cause.
             FrameStops M.meaning self.old bytes.now cause self.new outbox.old outbox.new) }

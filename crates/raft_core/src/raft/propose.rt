@@ -3,7 +3,7 @@
 ghost use Rattle.std.specs.Prelude.{◌≡◌, ◌+◌, ◌^◌, ◌<◌, true, false, List, length, None, OnOk, OnErr, IfOk, IfErr};
 ghost use Rattle.raft_model.specs.Logs.{state_after};
 ghost use Rattle.wire.specs.Frames.{Frame};
-ghost use Rattle.raft_model.specs.Rafts.{Raft as AnyRaft, is_leader};
+ghost use Rattle.raft_model.specs.Rafts.{Raft as AnyRaft, extended, is_leader};
 ghost use Rattle.raft_model.specs.Steps.{Propose};
 ghost use Rattle.raft_snapshot.specs.Bases.{state_from};
 ghost use Rattle.raft_core.specs.RaftView.{SameNumber, SameRaft};
@@ -110,6 +110,8 @@ impl<M: Machine> Raft<M> {
             Represents M.meaning self.old s →
             Takes M.meaning self.old s (Own (Propose command)) self.new sent sent) }
         ensures leads { OnOk result (is_leader self.new.server.mode ≡ true) }
+        ensures shown { OnOk result ((self.new.base ≡ self.old.base)
+            × (self.new.server ≡ extended self.old.server command)) }
         // It is the last entry of the log, in the leader's own term.
         ensures ticket { IfOk result (λ t. (s : AnyRaft M.Command) →
             Represents M.meaning self.new s → IsTicket s command t.index t.term) }

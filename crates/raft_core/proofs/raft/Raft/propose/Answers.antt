@@ -54,6 +54,15 @@ returns-clause-taken g c =
     let base = c.append.ensures.base ∙ ap (λ (v : RaftView g.row.M.Denot g.row.M-Command.Denot). v.base) c.self.view_is ∙ weighed.same.base in
     proposed_each g.M.Machine.meaning c.args.self.now c.shown.ensures c.args.command _ weighed.taken base (rw c.append.ensures.base next)
 
+pub returns-clause-shown : goal.returns-clause-shown
+returns-clause-shown g c =
+    let i = c.self.inside in
+    let weighed = c.in_ok-weigh.ensures in
+    let x : Raft g.row.M-Command.Denot = record { term = i.term; vote = i.vote; log = i.log.entries; covered = i.log.base.index; commit = i.commit; known = i.known; mode = mode_of i.role i.votes.items i.next.items i.matched.items } in
+    let grows = rw c.new.ensures at c.in_ok-append.ensures.ok in
+    let next = extended_by i.machine x c.args.command c.append.new.self.entries grows ∙ ap (λ (v : RaftView g.row.M.Denot g.row.M-Command.Denot). extended v.server c.args.command) c.self.view_is ∙ ap (λ (v : Raft g.row.M-Command.Denot). extended v c.args.command) weighed.same.server in
+    (c.append.ensures.base ∙ ap (λ (v : RaftView g.row.M.Denot g.row.M-Command.Denot). v.base) c.self.view_is ∙ weighed.same.base, rw c.append.ensures.base next)
+
 pub returns-clause-ticket : goal.returns-clause-ticket
 returns-clause-ticket g c =
     let i = c.self.inside in

@@ -1,5 +1,6 @@
 use Rattle.raft_core.specs.Inputs.{handed}
 use Rattle.raft_core.proofs.Fills.{takes_by, hides_shown, other_refused, other_same, other_unsent, other_leaves, other_stays, seen_each}
+use Rattle.raft_core.proofs.Telling.{may_keep}
 use Rattle.raft_core.proofs.raft.Raft.step_watched.Goals as goal
 
 pub returns-in-Ok-clause-taken : goal.returns-in-Ok-clause-taken
@@ -7,6 +8,9 @@ returns-in-Ok-clause-taken g c = takes_by g.M.Machine.meaning c.args.input c.arg
 
 pub returns-in-Ok-clause-seen : goal.returns-in-Ok-clause-seen
 returns-in-Ok-clause-seen g c = seen_each g.M.Machine.meaning g.W.Watch.sees c.args.self.now c.take.new.self c.shown.ensures c.shown-in-Ok.ensures c.in-Ok.ensures.led c.args.watch.now c.take.new.watch c.in-Ok.ensures.seen
+
+pub returns-in-Ok-clause-keeps : goal.returns-in-Ok-clause-keeps
+returns-in-Ok-clause-keeps g c = may_keep g.M.Machine.meaning c.args.self.now c.take.new.self c.args.outbox.now c.take.new.outbox c.committed.ensures c.shown.ensures c.shown-in-Ok.ensures (handed c.args.input) c.in-Ok.ensures.read c.in-Ok.ensures.taken
 
 pub returns-in_default : goal.returns-in_default
 returns-in_default g c =
@@ -23,6 +27,7 @@ returns-in_default g c =
       taken = tt;
       admitted = tt;
       kept = tt;
+      keeps = tt;
       refused = other_refused m a.input cause old new a.outbox.now c.take.new.outbox other c.shown.ensures stopped;
       unhidden = λ s r. hides_shown m old.size old.me old.base old.server s c.shown.ensures r a.input cause c.in-Err.ensures.unhidden;
       left = λ s r. other_leaves m (handed a.input) cause old new s other same;
