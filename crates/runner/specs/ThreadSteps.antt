@@ -8,6 +8,7 @@ use Rattle.cells.specs.Actors.{own_event}
 use Rattle.group_threads.specs.Running.{TookInput}
 use Rattle.cells.specs.Turns.{WhyNoTurn, own_envelope}
 use Rattle.scenario_file.specs.Steps.{AnEvent, Flow, Step, Work}
+use Rattle.playing.specs.Played.{LinesPlayed, Refused}
 
 -- it is the delivery of a message
 abbrev pub IsDelivery : Event → Type 0
@@ -37,3 +38,10 @@ abbrev pub RefusedOnThreads : ℕ → List Actor → Step → Refusal → Type 0
 RefusedOnThreads n all (AnEvent event) refusal = RefusedByCell n all event refusal
 RefusedOnThreads n all (Work server) refusal = ⊥
 RefusedOnThreads n all (Flow count) refusal = ⊥
+
+-- in a group of n servers, whose actors these are, each of these lines came once, and in order: this
+-- was refused of them
+abbrev pub LinesOnThreads : ℕ → List Actor → List (List ℕ) → List Refused → Type 0
+LinesOnThreads n all lines refused =
+    LinesPlayed {S = Unit {0}} (λ step old new. TakenOnThreads n step) (λ step old refusal new. RefusedOnThreads n all step refusal)
+    lines tt refused tt
