@@ -1,4 +1,3 @@
 -- Words of private contracts.
-pub mod Taking
 pub mod Findings
 pub mod Deliveries

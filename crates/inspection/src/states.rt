@@ -1,11 +1,11 @@
 //! The tables of a state.
 use crate::metrics::placements;
-use crate::shown::{
-    alloc_text, client_word, desired_word, drain_word, eval_text, name_text, node_word, status_word,
-};
 use fsm_state::Cluster;
 use inspection_reports::{
     AllocationReport, EvaluationReport, GroupReport, JobReport, NodeReport, StateReport,
+};
+use labels::{
+    alloc_text, client_word, desired_word, drain_word, eval_text, name_text, node_word, status_word,
 };
 use report_lines::owned;
 use rows::{Allocation, Evaluation, Group, Job, NoMemory, Node};
