@@ -8,8 +8,8 @@
 -- of its actions, and takes the state of one server alone, until that restarts.
 --
 -- The log is no single server's. It is the one list of a whole run, chosen in hindsight: the
--- entries that the run commits in the end. What some leader appended and another overwrote never
--- was in it.
+-- entries that the run commits in the end. At a moment it has those first ones of them that some
+-- server's log had held by then. What some leader appended and another overwrote never was in it.
 use Rattle.std.specs.Prelude.{◌≡◌, ◌≢◌, ℕ, suc, ◌-◌, ◌<◌, ◌≤◌, nat_eq, true, ◌&&◌, if◌then◌else◌, Option, Some, None, List, [], ◌∷◌, ◌++◌, length, take, replicate, slice_get, slice_set}
 use Rattle.rows.specs.declared.evaluation.EvalId.{EvalId}
 use Rattle.rows.specs.declared.evaluation.Evaluation.{Evaluation}
@@ -34,8 +34,8 @@ pub record SpecState : Type 0 where
   pub last_applied : List (Option ℕ)
   -- the allocations that each client ever started
   pub started : List (List AllocId)
-  -- in a term: the token under which an evaluation is outstanding, that is, with a worker. It may
-  -- be so in two terms at once: an old leader may not know yet that there is a newer one
+  -- in a term: the token under which an evaluation is outstanding, so that a plan under it may be
+  -- appended. It may be so in two terms at once: an old leader may not know yet of a newer one
   pub outstanding : ℕ → EvalId → Option Token
   -- the evaluations that were ever delivered to workers, each with its token
   pub delivered : List (EvalId × Token)
@@ -122,8 +122,8 @@ pub data Action (g : SpecState) : SpecState → Type 0 where
       slice_get g.started client ≡ Some ids → ((j : ℕ) → slice_get ids j ≢ Some id) →
       IsPlaced g (suc client) id →
       Action g (record g { started = slice_set g.started client (ids ++ id ∷ []) })
-  -- a leader delivers to a worker an evaluation that is pending after some committed entries and
-  -- is not outstanding in the leader's term, under a new token of that term
+  -- a leader delivers to a worker an evaluation that is pending after some committed entries, be
+  -- they not the newest, and is not outstanding in the leader's term, under a new token of that term
   delivers : (eval : EvalId) (token : Token) (k : ℕ) →
       k ≤ g.committed → IsPending (state_of (take k g.log)) eval →
       g.outstanding token.term eval ≡ None → IsNewest g token →
