@@ -6,7 +6,7 @@ use fsm_state::Cluster;
 use rows::{Actor, Delivery, EvalId, NoMemory, Refusal, ServerId, WorkerResponse};
 use server::Server;
 use std::alloc::Global;
-use wire::{Body, Frames, read_message};
+use wire::{Body, Frames, Message, read_message};
 
 /// A delivery that a message told of: who sent it, and the number of the server to which it was
 /// sent.
@@ -23,8 +23,8 @@ pub(crate) struct Sent {
 /// The deliveries of all messages, in order. No message is read twice.
 #[derive(Drop)]
 pub(crate) struct Deliveries {
-    /// So many messages were read.
-    read: usize,
+    /// Of each message that was read, whether it may replace what a server stores.
+    replacing: Vec<bool>,
     /// The deliveries that they told of.
     sent: Vec<Sent>,
 }
@@ -33,20 +33,38 @@ impl Deliveries {
     /// No message was read.
     pub fn new(alloc: Global) -> Deliveries {
         Deliveries {
-            read: 0,
+            replacing: Vec::new(alloc),
             sent: Vec::new(alloc),
         }
     }
 
     /// Reads the messages behind those that were read.
     pub fn read(&mut self, alloc: Global, messages: &Frames) -> Result<(), NoMemory> {
-        for place in self.read..messages.len() {
-            if let Some(sent) = sent_at(alloc, messages, place)? {
-                self.sent.push(sent)?;
-            }
+        for place in self.replacing.len()..messages.len() {
+            self.read_one(message_at(alloc, messages, place)?)?;
         }
-        self.read = messages.len();
         Ok(())
+    }
+
+    fn read_one(&mut self, message: Option<Message<Cluster>>) -> Result<(), NoMemory> {
+        let Some(message) = message else {
+            self.replacing.push(false)?;
+            return Ok(());
+        };
+        self.replacing.push(replaces(message.body()))?;
+        if let Some(sent) = sent_by(&message) {
+            self.sent.push(sent)?;
+        }
+        Ok(())
+    }
+
+    /// Whether the k-th message, from 1, may replace what its receiver stores, where neither the
+    /// receiver's term nor its last index changes.
+    pub fn may_replace(&self, k: u64) -> bool {
+        match k.checked_sub(1) {
+            Some(place) => self.replacing.get(place as usize) == Some(&true),
+            None => false,
+        }
     }
 
     /// Those that a server sent in its term.
@@ -62,24 +80,41 @@ impl Deliveries {
     }
 }
 
-// The delivery of the message at a place, if it is one.
-fn sent_at(alloc: Global, messages: &Frames, place: usize) -> Result<Option<Sent>, NoMemory> {
+// The message at a place, if it is one.
+fn message_at(
+    alloc: Global,
+    messages: &Frames,
+    place: usize,
+) -> Result<Option<Message<Cluster>>, NoMemory> {
     let Some(frame) = messages.get(place) else {
         return Ok(None);
     };
-    let message = match read_message::<Cluster>(alloc, frame.bytes()) {
-        Ok(message) => message,
-        Err(Refusal::NoMemory) => return Err(NoMemory),
-        Err(_) => return Ok(None),
-    };
+    match read_message::<Cluster>(alloc, frame.bytes()) {
+        Ok(message) => Ok(Some(message)),
+        Err(Refusal::NoMemory) => Err(NoMemory),
+        Err(_) => Ok(None),
+    }
+}
+
+// The delivery that a message tells of, if it is one.
+fn sent_by(message: &Message<Cluster>) -> Option<Sent> {
     let Body::Response(WorkerResponse::Delivered(Some(delivery))) = message.body() else {
-        return Ok(None);
+        return None;
     };
     let (Actor::Server(from), Actor::Server(to)) = (message.from(), message.to()) else {
-        return Ok(None);
+        return None;
     };
     let (delivery, to) = (*delivery, to.number());
-    Ok(Some(Sent { from, delivery, to }))
+    Some(Sent { from, delivery, to })
+}
+
+// A vote is given, entries come in the place of others, or a state in that of entries.
+fn replaces(body: &Body<Cluster>) -> bool {
+    match body {
+        Body::VoteRequest(_) | Body::Install(_) => true,
+        Body::Append(append) => !append.entries().is_empty(),
+        _ => false,
+    }
 }
 
 /// The last delivery of an evaluation among these.

@@ -19,8 +19,24 @@ pub(crate) fn server_report(alloc: Global, server: &Server) -> Result<ServerRepo
 }
 
 /// Reports of a server anew, where `report` is what was reported of it before, and whether its log
-/// became another one. Two entries of one index and term are the same.
+/// became another one. Two entries of one index and term are the same. What it stores is copied to
+/// be looked at, so only where its term or its last index changed, or it may be replaced.
 pub(crate) fn renew_server(
+    alloc: Global,
+    server: &Server,
+    report: &mut ServerReport,
+    may_replace: bool,
+) -> Result<bool, NoMemory> {
+    let is_longer = server.last().get() != report.last;
+    if may_replace || is_longer || server.term().get() != report.term {
+        return renew_stored(alloc, server, report);
+    }
+    report.role = role_word(server.role());
+    report.applied = applied_number(server);
+    Ok(false)
+}
+
+fn renew_stored(
     alloc: Global,
     server: &Server,
     report: &mut ServerReport,

@@ -8,7 +8,7 @@ use crate::entries::renew_server;
 use crate::fault::InspectError;
 use crate::gathering::{client_report, clients, desks, servers, standing, state_after};
 use crate::group::begin;
-use group_inputs::Event;
+use group_inputs::{Event, ServerInput};
 use inspection_reports::{ClientReport, ServerReport};
 use labels::role_word;
 use playback::take;
@@ -99,7 +99,7 @@ impl Seen {
             return Ok(());
         }
         match actor {
-            Some(Actor::Server(id)) => self.look_at_server(alloc, world, recorder, id),
+            Some(Actor::Server(id)) => self.look_at_server(alloc, world, recorder, id, event),
             Some(Actor::Client(id)) => self.look_at_client(alloc, world, recorder, id),
             None => Ok(()),
         }
@@ -111,16 +111,18 @@ impl Seen {
         world: &World,
         recorder: &mut Recorder,
         id: ServerId,
+        event: &Event,
     ) -> Result<(), NoMemory>
         ensures { recorder.new ≡ recorder.old }
     {
         self.sent.read(alloc, world.sent())?;
+        let may_replace = may_replace(event, &self.sent);
         let (Some(server), Some(report)) = (world.server(id), self.servers.get_mut(id.position()))
         else {
             return Ok(());
         };
         let led = is_leader(report);
-        let is_new_log = renew_server(alloc, server, report)?;
+        let is_new_log = renew_server(alloc, server, report, may_replace)?;
         let leads = is_leader(report);
         recorder.put_servers(alloc, &self.servers)?;
         if is_new_log {
@@ -185,6 +187,18 @@ fn actor_of(world: &World, event: &Event) -> Option<Actor> {
         Event::Deliver(number) => world.receiver(*number),
         Event::Server(id, _) => Some(Actor::Server(*id)),
         Event::Client(id, _) => Some(Actor::Client(*id)),
+    }
+}
+
+// Whether an event may replace what a server stores, where neither its term nor its last index
+// changes.
+fn may_replace(event: &Event, sent: &Deliveries) -> bool {
+    match event {
+        Event::Deliver(number) => sent.may_replace(*number),
+        Event::Server(_, input) => {
+            matches!(input.as_ref(), ServerInput::Compact | ServerInput::Frame(_))
+        }
+        Event::Client(..) => false,
     }
 }
 
