@@ -1,4 +1,7 @@
 //! What a server stores: its vote, and its log.
+ghost use Rattle.std.specs.Prelude.{◌≡◌};
+ghost use Rattle.inspection.specs.Inner.Applied.{applied_in};
+
 use crate::commands::command_text;
 use fsm_state::Cluster;
 use inspection_reports::{EntryReport, ServerReport};
@@ -74,7 +77,10 @@ fn report_of(
     }
 }
 
-fn applied_number(server: &Server) -> Option<u64> {
+/// How many entries a server has applied, while it is up.
+pub(crate) fn applied_number(server: &Server) -> Option<u64>
+    ensures { result ≡ applied_in server.now }
+{
     match server.applied() {
         Some(applied) => Some(applied.get()),
         None => None,

@@ -1,6 +1,7 @@
 //! How a group stands after some of a run's events, as a text or as JSON.
 #![tactic(auto)]
 
+mod applied;
 mod commands;
 mod deliveries;
 mod desk;

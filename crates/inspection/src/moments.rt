@@ -3,10 +3,11 @@ ghost use Rattle.std.specs.Prelude.{◌≡◌, ◌≢◌, ◌+◌, length, IfErr
 ghost use Rattle.labels.specs.Groups.{MayBe, MayNotBe};
 ghost use Rattle.inspection.specs.declared.fault.InspectError.TheVariants as errors;
 
+use crate::applied::standing;
 use crate::deliveries::Deliveries;
 use crate::entries::renew_server;
 use crate::fault::InspectError;
-use crate::gathering::{client_report, clients, desks, servers, standing, state_after};
+use crate::gathering::{client_report, clients, desks, servers, state_after};
 use crate::group::begin;
 use group_inputs::{Event, ServerInput};
 use inspection_reports::{ClientReport, ServerReport};
