@@ -1,7 +1,4 @@
-pub mod Crashes
-pub mod Doing
 pub mod Handing
-pub mod Reading
-pub mod Serving
 pub mod Telling
-pub mod Turning
+pub mod Deltas
+pub mod Starting

@@ -1,2 +1,4 @@
 -- Words of private contracts.
 pub mod Refusals
+pub mod Before
+pub mod Reading

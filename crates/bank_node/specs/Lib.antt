@@ -1,7 +1,8 @@
 pub mod Statuses
 pub mod Items
-pub mod Deeds
 pub mod Lines
 pub mod Turns
-pub mod Crashes
+pub mod Records
+pub mod Starts
 pub mod Inner
+pub mod Laws

@@ -4,18 +4,47 @@ use Rattle.std.specs.List.{flat_map}
 use Rattle.rows.specs.Refusals.{number_of}
 use Rattle.rows.specs.Words.{refusal_words}
 use Rattle.rows.specs.declared.refusal.Refusal.{Refusal}
+use Rattle.rows.specs.declared.refusal.Refusal.TheVariants as refusals
 use Rattle.machine_model.specs.Meaning.{Meaning}
 use Rattle.raft_model.specs.Logs.{state_after}
 use Rattle.raft_model.specs.Rafts.{Raft, is_up}
 use Rattle.raft_core.specs.declared.role.Role.{Role}
 use Rattle.raft_core.specs.declared.role.Role.TheVariants as roles
+use Rattle.raft_core.specs.declared.ticket.Standing.{Standing}
+use Rattle.raft_core.specs.declared.ticket.Standing.TheVariants as standings
 use Rattle.raft_core.specs.RaftView.{RaftView}
 use Rattle.raft_core.specs.Steps.{Represents, role_of}
 use Rattle.bank.specs.BankState.{BankState}
 
--- `refused N: WORDS`: the refusal's number, and what is wrong
-abbrev pub refused_line : Refusal → List ℕ
-refused_line cause = codes "refused " ++ (decimal (number_of cause) ++ (codes ": " ++ (refusal_words cause ++ codes "\n")))
+-- `refused N: WORDS`: the refusal's number, and what is wrong, in the machine's words if it has some
+abbrev pub reason_or : Option (List ℕ) → Refusal → List ℕ
+reason_or (Some reason) cause = reason
+reason_or None cause = refusal_words cause
+
+abbrev pub refused_line : (Refusal → Option (List ℕ)) → Refusal → List ℕ
+refused_line reason cause = codes "refused " ++ (decimal (number_of cause) ++ (codes ": " ++ (reason_or (reason cause) cause ++ codes "\n")))
+
+-- `ticket INDEX TERM`: where a proposal stands that was taken
+abbrev pub ticket_line : ℕ → ℕ → List ℕ
+ticket_line index term = codes "ticket " ++ (decimal index ++ (codes " " ++ (decimal term ++ codes "\n")))
+
+-- what a server knows of a ticket
+abbrev pub standing_word : Option Standing → List ℕ
+standing_word None = codes "down"
+standing_word (Some standings.Open) = codes "open"
+standing_word (Some standings.Settled) = codes "settled"
+standing_word (Some standings.Lost) = codes "lost"
+standing_word (Some standings.Covered) = codes "covered"
+
+-- `standing INDEX TERM WORD`
+abbrev pub standing_line : ℕ → ℕ → List ℕ → List ℕ
+standing_line index term word = codes "standing " ++ (decimal index ++ (codes " " ++ (decimal term ++ (codes " " ++ (word ++ codes "\n")))))
+
+-- the bank's own reasons
+abbrev pub bank_reason : Refusal → Option (List ℕ)
+bank_reason refusals.OutOfRange = Some (codes "no such account, too little money in it, or no room for more")
+bank_reason refusals.TableFull = Some (codes "there are as many accounts as there may be")
+bank_reason _ = None
 
 -- what a server is doing
 abbrev pub role_word : Option Role → List ℕ

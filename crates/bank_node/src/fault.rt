@@ -2,9 +2,10 @@
 ghost use Rattle.std.specs.Prelude.{◌≡◌, ◌≢◌, ◌≤◌, ◌↔◌};
 ghost use Rattle.std.specs.IoError.{error_kind};
 ghost use Rattle.std.specs.declared.io.ErrorKind.TheVariants.{OutOfMemory};
-ghost use Rattle.bank_node.specs.Statuses.{status_of};
+ghost use Rattle.bank_node.specs.Statuses.{fault_of, open_fault, status_of};
 ghost use Rattle.bank_node.specs.declared.fault.Fault.TheVariants as faults;
 
+use journal::{OpenError, Stop};
 use rows::NoMemory;
 use std::alloc::AllocError;
 use std::io;
@@ -25,7 +26,17 @@ pub enum Fault {
     /// The store is there, and cannot be read.
     #[error("bank_node: the store cannot be read\n")]
     Unread,
-    /// What the store has is no stored part: with the place of its first fault, from 0.
+    /// What has the store's name is no regular file.
+    #[error("bank_node: the store is no regular file\n")]
+    NotAFile,
+    /// Another process has the store open.
+    #[error("bank_node: the store is in use by another process\n")]
+    InUse,
+    /// The store is the journal of another server, or of a group of another size.
+    #[error("bank_node: the store is another's journal: its first line says whose\n")]
+    Another,
+    /// What the store has is no stored part: with the offset of its first fault, or of the record
+    /// that is damaged, from 0.
     #[error("bank_node: the store is at fault at byte {0}\n")]
     BadStore(usize),
     /// The store cannot be written.
@@ -64,6 +75,34 @@ impl Fault {
             Fault::NoMemory
         } else {
             self
+        }
+    }
+}
+
+impl From<Stop> for Fault {
+    ghost from_gives = { λ stop fault. fault ≡ fault_of stop };
+
+    fn from(stop: Stop) -> Fault {
+        match stop {
+            Stop::TooLong(size) => Fault::TooLong(size),
+            Stop::Cut => Fault::Cut,
+            Stop::Input => Fault::Input,
+            Stop::Unstored => Fault::Unstored,
+            Stop::Output => Fault::Output,
+            Stop::NoMemory => Fault::NoMemory,
+        }
+    }
+}
+
+impl From<OpenError> for Fault {
+    ghost from_gives = { λ error fault. fault ≡ open_fault error };
+
+    fn from(error: OpenError) -> Fault {
+        match error {
+            OpenError::NoMemory => Fault::NoMemory,
+            OpenError::NotAFile => Fault::NotAFile,
+            OpenError::InUse => Fault::InUse,
+            OpenError::Unread => Fault::Unread,
         }
     }
 }

@@ -1,10 +1,11 @@
 //! The lines that the standard error is told.
-ghost use Rattle.std.specs.Prelude.{◌≡◌, ◌↔◌, ◌++◌, ℕ, List, IfOk, IsOk, OnOk};
-ghost use Rattle.bank_node.specs.Lines.{Shows, ShowsState, applied_text, balance_text, bank_words, refused_line, role_word, server_text};
+ghost use Rattle.std.specs.Prelude.{◌≡◌, ◌↔◌, ◌++◌, ℕ, List, Option, IfOk, IsOk, MatchOption, OnOk, Some, None};
+ghost use Rattle.rows.specs.declared.refusal.Refusal.{Refusal};
+ghost use Rattle.bank_node.specs.Lines.{Shows, ShowsState, applied_text, balance_text, bank_reason, bank_words, reason_or, refused_line, role_word, server_text, standing_line, standing_word, ticket_line};
 
 use bank::{AccountId, Bank};
 use machine::Machine;
-use raft_core::{Raft, Role};
+use raft_core::{Raft, Role, Standing};
 use rows::{NoMemory, Refusal, ServerId};
 use std::alloc::Global;
 use std::io;
@@ -15,14 +16,34 @@ pub trait Words: Machine {
     /// The words, with a space in front.
     ghost words: { Self → List ℕ };
 
-    /// Puts them to the end of a line.
+    /// Why it refuses a command, in its own words, where it has some.
+    ghost reason: { Refusal → Option (List ℕ) };
+
+    /// Puts the words to the end of a line.
     fn tell(&self, line: &mut Vec<u8>) -> Result<(), NoMemory>
         ensures { OnOk result (line.new.items ≡ line.old.items ++ words self.now) };
+
+    /// Why it refuses a command.
+    fn reason_of(refusal: &Refusal) -> Option<&'static str>
+        ensures { MatchOption result (reason refusal.now ≡ None)
+            (λ text. reason refusal.now ≡ Some text.now) };
 }
 
 /// ` balances`, and each balance in order.
 impl Words for Bank {
     ghost words = { bank_words };
+
+    ghost reason = { bank_reason };
+
+    fn reason_of(refusal: &Refusal) -> Option<&'static str> {
+        match refusal {
+            Refusal::OutOfRange => {
+                Some("no such account, too little money in it, or no room for more")
+            }
+            Refusal::TableFull => Some("there are as many accounts as there may be"),
+            _ => None,
+        }
+    }
 
     fn tell(&self, line: &mut Vec<u8>) -> Result<(), NoMemory> {
         written(write!(line, " balances"))?;
@@ -53,13 +74,47 @@ fn written(done: io::Result<()>) -> Result<(), NoMemory>
     }
 }
 
-/// `refused N: WORDS`.
-pub fn refused_line(alloc: Global, refusal: Refusal) -> Result<Vec<u8>, NoMemory>
-    ensures { IfOk result (λ line. line.items ≡ refused_line refusal) }
+/// `refused N: WORDS`, in the machine's words where it has some.
+pub fn refused_line<M: Words>(alloc: Global, refusal: Refusal) -> Result<Vec<u8>, NoMemory>
+    ensures { IfOk result (λ line. line.items ≡ refused_line M.reason refusal) }
 {
     let mut line = Vec::new(alloc);
     let number = refusal.number();
-    written(writeln!(line, "refused {number}: {refusal}"))?;
+    match M::reason_of(&refusal) {
+        Some(reason) => written(writeln!(line, "refused {number}: {reason}"))?,
+        None => written(writeln!(line, "refused {number}: {refusal}"))?,
+    }
+    Ok(line)
+}
+
+/// `ticket INDEX TERM`.
+pub fn ticket_line(alloc: Global, index: u64, term: u64) -> Result<Vec<u8>, NoMemory>
+    ensures { IfOk result (λ line. line.items ≡ ticket_line index term) }
+{
+    let mut line = Vec::new(alloc);
+    written(writeln!(line, "ticket {index} {term}"))?;
+    Ok(line)
+}
+
+/// What a server knows of a ticket.
+pub fn standing_word(standing: Option<Standing>) -> &'static str
+    ensures { result.now ≡ standing_word standing }
+{
+    match standing {
+        None => "down",
+        Some(Standing::Open) => "open",
+        Some(Standing::Settled) => "settled",
+        Some(Standing::Lost) => "lost",
+        Some(Standing::Covered) => "covered",
+    }
+}
+
+/// `standing INDEX TERM WORD`.
+pub fn standing_line(alloc: Global, index: u64, term: u64, word: &str) -> Result<Vec<u8>, NoMemory>
+    ensures { IfOk result (λ line. line.items ≡ standing_line index term word.now) }
+{
+    let mut line = Vec::new(alloc);
+    written(writeln!(line, "standing {index} {term} {word}"))?;
     Ok(line)
 }
 

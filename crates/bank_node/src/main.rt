@@ -3,19 +3,21 @@
 //! file before a frame that tells of it leaves.
 #![tactic(auto)]
 
-ghost use Rattle.std.specs.Prelude.{IfSome};
-
+mod delta;
 mod fault;
-mod host;
-mod items;
 mod lines;
 mod node;
+mod start;
 
 use bank::Bank;
 use fault::Fault;
-use host::{Host, words_of};
-use node::{begin, serve};
-use rows::ServerId;
+use journal::{Host, MAGIC, serve};
+use node::Node;
+use rows::{NoMemory, ServerId};
+use start::begin;
+use std::alloc::Global;
+use std::env;
+use std::io::Write;
 use std::process::ExitCode;
 
 fn main(rt: HostRuntime) -> ExitCode {
@@ -25,6 +27,24 @@ fn main(rt: HostRuntime) -> ExitCode {
     // Where the standard error fails too, the status still says what went wrong.
     let _ = eprint!(rt; "{fault}");
     ExitCode::from(fault.status())
+}
+
+/// The words of the command line, of which the first is the program's name.
+fn words_of(rt: &HostRuntime) -> Result<Vec<String>, Fault> {
+    match env::args(rt) {
+        Ok(words) => Ok(words.collect(rt.alloc())?),
+        Err(error) => Err(Fault::Usage.unless_memory(&error)),
+    }
+}
+
+/// The first line of a server's journal.
+fn header_of(alloc: Global, me: ServerId, size: usize) -> Result<Vec<u8>, NoMemory> {
+    let mut header = Vec::new(alloc);
+    header.extend_from_slice(MAGIC)?;
+    match writeln!(header, "1 bank_node {me} of {size}") {
+        Ok(()) => Ok(header),
+        Err(_) => Err(NoMemory),
+    }
 }
 
 /// Runs the server that the words of the command line name: `bank_node ME OF STORE`.
@@ -37,10 +57,18 @@ fn run(rt: &HostRuntime) -> Result<(), Fault> {
     let (Some(me), Ok(size)) = (server_of(me.as_str()), of.as_str().parse()) else {
         return Err(Fault::Usage);
     };
-    let mut host = Host::new(rt, store.as_str())?;
-    let stored = host.stored()?;
-    let mut server = begin::<Bank>(alloc, me, size, stored.as_ref().map(|text| text.as_slice()))?;
-    serve(alloc, &mut server, &mut rt.stdin(), &mut host)
+    let header = header_of(alloc, me, size)?;
+    let (mut host, stored) = Host::open(rt, store.as_str(), header.clone()?)?;
+    let server = begin::<Bank>(
+        alloc,
+        me,
+        size,
+        header.as_slice(),
+        stored.as_ref().map(|text| text.as_slice()),
+    )?;
+    let mut node = Node::new(server);
+    serve(alloc, &mut node, &mut host)?;
+    Ok(())
 }
 
 /// The server of this number, from 1 to 5.

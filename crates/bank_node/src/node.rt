@@ -1,250 +1,82 @@
-//! A server that takes items, one after the other.
-ghost use Rattle.std.specs.Prelude.{◌≡◌, ◌≢◌, ◌∷◌, ◌++◌, ◌⊎◌, ◌||◌, [], ℕ, List, Option, None, true, false, IfErr, IfOk, MatchOption, OnErr, OnOk, codes, drop, option_map};
-ghost use Rattle.rows.specs.Versions.{newest};
-ghost use Rattle.fields_model.specs.Format.{Gives, whole};
-ghost use Rattle.raft_core.specs.StoredParts.{stored_part};
-ghost use Rattle.raft_core.specs.Inputs.{handed};
-ghost use Rattle.raft_core.specs.Steps.{IsGroupMember, Represents, Stores};
-ghost use Rattle.raft_model.specs.Rafts.{Raft as AnyRaft, restarted};
-ghost use Rattle.bank_node.specs.Deeds.{Deed, Saves, Sends, Tells, Does, MayDo, Begins};
-ghost use Rattle.bank_node.specs.Items.{EndsWithin, IsLong, input_of, is_proposal};
-ghost use Rattle.bank_node.specs.Statuses.{is_of_beginning, is_of_input, is_of_turn};
-ghost use Rattle.wire.specs.Frames.{sized};
-ghost use Rattle.bank_node.specs.Inner.Refusals.{is_memory};
-ghost use Rattle.bank_node.specs.Lines.{Shows, refused_line};
-ghost use Rattle.raft_core.specs.RaftView.{RaftView};
-ghost use Rattle.bank_node.specs.Crashes.{Leaves};
-ghost use Rattle.bank_node.specs.Turns.{IsStored, IsBadStore, IsTaken, IsDeclined, Turn, Runs, Halts, Serves, ServesUpTo, Stops, text_of, changes, sends};
-ghost use Rattle.bank_node.specs.declared.fault.Fault.TheVariants as faults;
+//! One server of a group over any machine, as the actor of a process. What it is asked, and what it
+//! answers, are items of bytes.
 
-use crate::fault::Fault;
-use crate::items::{item_of, next_item};
-use crate::lines::{Words, refused_line, status_line};
+ghost use Rattle.std.specs.Prelude.{◌≡◌, ◌≢◌, ◌≤◌, ◌∷◌, ◌++◌, [], ℕ, List, Ok, Err, Some, None, true, false, codes, drop, length, map, IfErr, IfOk, IfSome, MatchBool, MatchOption, OnOk, OnErr};
+ghost use Rattle.rows.specs.Versions.{newest};
+ghost use Rattle.fields_model.specs.Format.{Gives, GivesExactly, whole};
+ghost use Rattle.wire.specs.Frames.{sized};
+ghost use Rattle.raft_core.specs.Inputs.{handed};
+ghost use Rattle.raft_core.specs.RaftView.{RaftView, SameRaft};
+ghost use Rattle.raft_core.specs.StoredParts.{stored_part, MayKeepLog};
+ghost use Rattle.raft_snapshot.specs.Stored.{Stored};
+ghost use Rattle.journal.specs.Events.{IoEvent, AreOutputs, Sent, Reported};
+ghost use Rattle.journal.specs.Replays.{Replay};
+ghost use Rattle.journal.specs.Savings.{event_of, IsSaving};
+ghost use Rattle.bank_node.specs.Inner.Before.{Remembers};
+ghost use Rattle.bank_node.specs.Inner.Refusals.{is_memory};
+ghost use Rattle.bank_node.specs.Laws.Outputs.{outputs_alone};
+ghost use Rattle.bank_node.specs.Items.{asked, begins_with, input_of, is_proposal, is_question, ticket};
+ghost use Rattle.bank_node.specs.Lines.{Shows, refused_line, ticket_line, standing_line, standing_word};
+ghost use Rattle.bank_node.specs.Records.{IsDelta, raft_replay};
+ghost use Rattle.bank_node.specs.Turns.{Turn, IsTaken, IsDeclined, sends};
+ghost use Rattle.bank_node.specs.declared.delta.LogDelta.TheVariants as deltas;
+
+use crate::delta::{Before, LogDelta, changed, joined, remember};
+use crate::lines::{Words, refused_line, standing_line, standing_word, status_line, ticket_line};
+use fields::{read_index, read_term};
+use journal::{Actor, Out, Saving, item_of};
 use machine::Machine;
-use raft_core::{Input, Raft};
-use raft_snapshot::{Stable, read_stable, write_stable};
-use rows::{NoMemory, Refusal, ServerId, Version};
+use raft_core::{Input, Raft, Ticket};
+use raft_snapshot::{Stable, changes_lead, stable_texts_are_whole};
+use rows::{Index, NoMemory, Refusal, Term, Version};
 use std::alloc::Global;
-use std::io;
-use std::io::Read;
+use std::marker::Model;
 use wire::Frames;
 
-/// What a node does to the world outside, in one order.
-pub trait Outside {
-    // What was done so far, where it is known.
-    ghost done: { Self → Option (List Deed) } = { λ _. None };
-
-    /// Puts a text into the store, in place of what was there: once this has returned, it outlives
-    /// a crash. After an error, and after a crash on the way, the store has the one or the other.
-    fn store(&mut self, text: &[u8]) -> io::Result<()>
-        ensures ok { OnOk result (Does (done self.old) (done self.new) (Saves text.now ∷ [])) }
-        ensures err { OnErr result (MayDo (done self.old) (done self.new) (Saves text.now)) };
-
-    /// Writes the bytes of an item to the output.
-    fn send(&mut self, item: &[u8]) -> io::Result<()>
-        ensures ok { OnOk result (Does (done self.old) (done self.new) (Sends item.now ∷ [])) }
-        ensures err { OnErr result (MayDo (done self.old) (done self.new) (Sends item.now)) };
-
-    /// Writes a line to the standard error.
-    fn tell(&mut self, line: &[u8]) -> io::Result<()>
-        ensures ok { OnOk result (Does (done self.old) (done self.new) (Tells line.now ∷ [])) }
-        ensures err { OnErr result (MayDo (done self.old) (done self.new) (Tells line.now)) };
+/// A server of the log as an actor.
+#[derive(Drop)]
+pub struct Node<M: Words> {
+    server: Raft<M>,
 }
 
-/// The server of what the store has, or where there is none a new one.
-pub fn begin<M: Machine>(
-    alloc: Global,
-    me: ServerId,
-    size: usize,
-    stored: Option<&[u8]>,
-) -> Result<Raft<M>, Fault>
-    ensures place { IfOk result (λ server. (server.me ≡ me) × (server.size ≡ size)) }
-    ensures stored { IfOk result (λ server. IsStored M.meaning
-        (option_map (λ text. text.now) stored.entry) (stored_part server)) }
-    ensures server { IfOk result (λ server. (s : AnyRaft M.Command) →
-        Stores M.meaning (stored_part server) s → Represents M.meaning server (restarted s)) }
-    ensures usage { IfErr result (λ fault. fault ≡ faults.Usage → IsGroupMember size me → ⊥) }
-    ensures fault { IfErr result (λ fault. (place : ℕ) → fault ≡ faults.BadStore place →
-        IsBadStore M.meaning (option_map (λ text. text.now) stored.entry) place) }
-    ensures early { IfErr result (λ fault. is_of_beginning fault ≡ true) }
-{
-    let stable = stable_of(alloc, stored)?;
-    match Raft::restart(alloc, me, size, stable) {
-        Ok(server) => Ok(server),
-        Err(refused) => match refused.refusal {
-            Refusal::NoMemory => Err(Fault::NoMemory),
-            _ => Err(Fault::Usage),
-        },
+impl<M: Words> Model for Node<M> {
+    ghost use Rattle.raft_core.specs.RaftView.{RaftView};
+
+    ghost Value = { RaftView M M.Command };
+
+    ghost view = { λ a. a.server };
+}
+
+impl<M: Words> Node<M> {
+    /// The actor that this server is.
+    pub fn new(server: Raft<M>) -> Node<M>
+        ensures { result ≡ server }
+    {
+        Node { server }
     }
 }
 
-/// What the store has, or where there is none what a new server stores.
-fn stable_of<M: Machine>(alloc: Global, stored: Option<&[u8]>) -> Result<Stable<M>, Fault>
-    ensures stored { IfOk result (IsStored M.meaning (option_map (λ text. text.now) stored.entry)) }
-    ensures usage { IfErr result (λ fault. fault ≢ faults.Usage) }
-    ensures fault { IfErr result (λ fault. (place : ℕ) → fault ≡ faults.BadStore place →
-        IsBadStore M.meaning (option_map (λ text. text.now) stored.entry) place) }
-    ensures early { IfErr result (λ fault. is_of_beginning fault ≡ true) }
+/// Puts a line behind what is sent and reported.
+fn put_line(line: Vec<u8>, outs: &mut Vec<Out>) -> Result<(), NoMemory>
+    ensures { OnOk result (map event_of outs.new.items
+        ≡ map event_of outs.old.items ++ Reported line.items ∷ []) }
 {
-    let Some(text) = stored else {
-        return Ok(Stable::new(alloc));
-    };
-    match read_stable(alloc, text) {
-        Ok(stable) => Ok(stable),
-        Err(Refusal::Frame(place)) => Err(Fault::BadStore(place)),
-        Err(_) => Err(Fault::NoMemory),
-    }
+    outs.push(Out::Line(line))?;
+    Ok(())
 }
 
-/// Takes the items of the input up to its end. Each is done with before the next is read: what the
-/// server then stores is in the store before its frames leave.
-#[tactic(auto, using(crate::proofs::Serving::all_served, crate::proofs::Serving::reaches_first))]
-pub fn serve<M: Words, R: Read, O: Outside>(
-    alloc: Global,
-    server: &mut Raft<M>,
-    input: &mut R,
-    outside: &mut O,
-) -> Result<(), Fault>
-    ensures ok { OnOk result (Serves M.meaning M.words server.old server.new
-        (R.remaining input.old) (R.remaining input.new) (O.done outside.old) (O.done outside.new)) }
-    ensures err { OnErr result (Stops M.meaning M.words server.old
-        (R.remaining input.old) (R.remaining input.new) (O.done outside.old) (O.done outside.new)) }
-    ensures long { IfErr result (λ fault. (size : ℕ) → fault ≡ faults.TooLong size →
-        ServesUpTo M.meaning M.words server.old server.new (R.remaining input.old)
-        (O.done outside.old) (O.done outside.new)
-        (λ point. IsLong point (R.remaining input.new) size)) }
-    ensures cut { IfErr result (λ fault. fault ≡ faults.Cut →
-        ServesUpTo M.meaning M.words server.old server.new (R.remaining input.old)
-        (O.done outside.old) (O.done outside.new)
-        (λ point. EndsWithin point (R.remaining input.new))) }
-    ensures late { IfErr result (λ fault. (is_of_input fault || is_of_turn fault) ≡ true) }
+/// Puts each frame, as an item, behind what is sent and reported.
+fn put_frames(alloc: Global, frames: &Frames, outs: &mut Vec<Out>) -> Result<(), NoMemory>
+    ensures { OnOk result (map event_of outs.new.items
+        ≡ map event_of outs.old.items ++ sends frames.now) }
 {
-    crashes_lose_no_promise::<M>();
-    let mut kept = stored_text(alloc, server)?;
-    'items: for _ in 0..u64::MAX {
-        let Some(item) = next_item(alloc, input)? else {
-            return Ok(());
+    for place in 0..frames.len() {
+        let Some(frame) = frames.get(place) else {
+            unreachable!()
         };
-        kept = turn(alloc, server, item.as_slice(), kept, outside)?;
+        outs.push(Out::Item(item_of(alloc, frame.bytes())?))?;
     }
-    Err(Fault::Input)
-}
-
-/// At any moment of a run of items some first deeds are done, and a crash leaves just these. They
-/// are deeds of some first items alone, and the store has what the server stores after just these
-/// items: so a server that begins again with it has given each vote, and has each entry, of which
-/// a frame tells that left. The function has an empty body: what it says is its contract.
-pub fn crashes_lose_no_promise<M: Words>()
-    ensures { (items : List (List ℕ)) (old new : RaftView M M.Command) (done others : List Deed) →
-        Runs M.meaning M.words items old new (done ++ others) →
-        Leaves M.meaning M.words items old done }
-{}
-
-/// The text of what a server stores.
-fn stored_text<M: Machine>(alloc: Global, server: &Raft<M>) -> Result<Vec<u8>, NoMemory>
-    ensures { IfOk result (λ text. text.items ≡ text_of M.meaning server.now) }
-{
-    let stable = server.stable()?;
-    let mut text = Vec::new(alloc);
-    write_stable(&stable, &mut text)?;
-    Ok(text)
-}
-
-/// One item, for a server of whose stored part `kept` is the text; the text after it.
-fn turn<M: Words, O: Outside>(
-    alloc: Global,
-    server: &mut Raft<M>,
-    item: &[u8],
-    kept: Vec<u8>,
-    outside: &mut O,
-) -> Result<Vec<u8>, Fault>
-    requires { kept.items ≡ text_of M.meaning server.old }
-    ensures kept { IfOk result (λ text. text.items ≡ text_of M.meaning server.new) }
-    ensures ok { OnOk result ((deeds : List Deed)
-        × Turn M.meaning M.words item.now server.old server.new deeds
-        × Does (O.done outside.old) (O.done outside.new) deeds) }
-    ensures err { OnErr result (Halts M.meaning M.words item.now server.old
-        (O.done outside.old) (O.done outside.new)) }
-    ensures of_turn { IfErr result (λ fault. is_of_turn fault ≡ true) }
-{
-    if item == b"S".as_slice() {
-        show(alloc, server, outside)?;
-        return Ok(kept);
-    }
-    let mut frames = Frames::new(alloc);
-    take_item(alloc, server, item, kept, &mut frames, outside)
-}
-
-/// The same of an item that asks something of the server.
-#[tactic(auto, using(crate::proofs::Turning::not_begun))]
-fn take_item<M: Words, O: Outside>(
-    alloc: Global,
-    server: &mut Raft<M>,
-    item: &[u8],
-    kept: Vec<u8>,
-    frames: &mut Frames,
-    outside: &mut O,
-) -> Result<Vec<u8>, Fault>
-    requires other { item.now ≢ codes "S" }
-    requires text { kept.items ≡ text_of M.meaning server.old }
-    requires none { frames.old ≡ [] }
-    ensures kept { IfOk result (λ text. text.items ≡ text_of M.meaning server.new) }
-    ensures ok { OnOk result ((deeds : List Deed)
-        × Turn M.meaning M.words item.now server.old server.new deeds
-        × Does (O.done outside.old) (O.done outside.new) deeds) }
-    ensures err { OnErr result (Halts M.meaning M.words item.now server.old
-        (O.done outside.old) (O.done outside.new)) }
-    ensures of_turn { IfErr result (λ fault. is_of_turn fault ≡ true) }
-{
-    match hand(alloc, server, item, frames) {
-        Ok(()) => {
-            let text = stored_text(alloc, server)?;
-            store_and_send(alloc, kept.as_slice(), text.as_slice(), frames, outside)?;
-            Ok(text)
-        }
-        Err(refusal) => {
-            decline(alloc, refusal, outside)?;
-            Ok(kept)
-        }
-    }
-}
-
-/// Tells how the server stands.
-#[tactic(auto, using(crate::proofs::Doing::does_nil))]
-fn show<M: Words, O: Outside>(alloc: Global, server: &Raft<M>, outside: &mut O) -> Result<(), Fault>
-    ensures ok { OnOk result ((line : List ℕ) × Shows M.meaning M.words server.now line
-        × Does (O.done outside.old) (O.done outside.new) (Tells line ∷ [])) }
-    ensures err { OnErr result (Does (O.done outside.old) (O.done outside.new) [] ⊎
-        ((line : List ℕ) × Shows M.meaning M.words server.now line
-        × MayDo (O.done outside.old) (O.done outside.new) (Tells line))) }
-    ensures of_turn { IfErr result (λ fault. is_of_turn fault ≡ true) }
-{
-    let line = status_line(alloc, server)?;
-    match outside.tell(line.as_slice()) {
-        Ok(()) => Ok(()),
-        Err(_) => Err(Fault::Output),
-    }
-}
-
-/// Tells why an item is refused. Want of memory is none of an item's, and ends the run.
-#[tactic(auto, using(crate::proofs::Doing::does_nil))]
-fn decline<O: Outside>(alloc: Global, refusal: Refusal, outside: &mut O) -> Result<(), Fault>
-    ensures other { OnOk result (is_memory refusal ≡ false) }
-    ensures ok { OnOk result (Does (O.done outside.old) (O.done outside.new)
-        (Tells (refused_line refusal) ∷ [])) }
-    ensures err { OnErr result (Does (O.done outside.old) (O.done outside.new) [] ⊎
-        ((is_memory refusal ≡ false)
-        × MayDo (O.done outside.old) (O.done outside.new) (Tells (refused_line refusal)))) }
-    ensures of_turn { IfErr result (λ fault. is_of_turn fault ≡ true) }
-{
-    if is_memory(&refusal) {
-        return Err(Fault::NoMemory);
-    }
-    let line = refused_line(alloc, refusal)?;
-    match outside.tell(line.as_slice()) {
-        Ok(()) => Ok(()),
-        Err(_) => Err(Fault::Output),
-    }
+    Ok(())
 }
 
 /// Whether it is want of memory.
@@ -257,107 +89,44 @@ fn is_memory(refusal: &Refusal) -> bool
     }
 }
 
-/// Stores the text, where it is another than the one before, and then writes each frame to the
-/// output.
-#[tactic(auto, using(crate::proofs::Doing::does_more, crate::proofs::Doing::begins_more, crate::proofs::Doing::begins_longer))]
-fn store_and_send<O: Outside>(
-    alloc: Global,
-    kept: &[u8],
-    text: &[u8],
-    frames: &Frames,
-    outside: &mut O,
-) -> Result<(), Fault>
-    ensures ok { OnOk result (Does (O.done outside.old) (O.done outside.new)
-        (changes kept.now text.now ++ sends frames.now)) }
-    ensures err { OnErr result (Begins (O.done outside.old) (O.done outside.new)
-        (changes kept.now text.now ++ sends frames.now)) }
-    ensures of_turn { IfErr result (λ fault. is_of_turn fault ≡ true) }
+/// Reports why an item is refused. Want of memory is none of an item's.
+fn decline<M: Words>(alloc: Global, refusal: Refusal, outs: &mut Vec<Out>) -> Result<(), NoMemory>
+    ensures other { OnOk result (is_memory refusal ≡ false) }
+    ensures line { OnOk result (map event_of outs.new.items
+        ≡ map event_of outs.old.items ++ Reported (refused_line M.reason refusal) ∷ []) }
 {
-    store_change(kept, text, outside)?;
-    send_all(alloc, frames, outside)
+    if is_memory(&refusal) {
+        return Err(NoMemory);
+    }
+    let line = refused_line::<M>(alloc, refusal)?;
+    put_line(line, outs)
 }
 
-/// Stores the text, where it is another than the one before.
-#[tactic(auto, using(crate::proofs::Doing::unchanged, crate::proofs::Doing::stored_new, crate::proofs::Doing::may_store))]
-fn store_change<O: Outside>(kept: &[u8], text: &[u8], outside: &mut O) -> Result<(), Fault>
-    ensures ok { OnOk result (Does (O.done outside.old) (O.done outside.new)
-        (changes kept.now text.now)) }
-    ensures err { OnErr result (Begins (O.done outside.old) (O.done outside.new)
-        (changes kept.now text.now)) }
-    ensures of_turn { IfErr result (λ fault. is_of_turn fault ≡ true) }
+/// Whether an item begins with a letter.
+fn begins_with(item: &[u8], letter: u8) -> bool
+    ensures { result ≡ begins_with letter item.now }
 {
-    if kept == text {
-        return Ok(());
-    }
-    match outside.store(text) {
-        Ok(()) => Ok(()),
-        Err(_) => Err(Fault::Unstored),
-    }
+    !item.is_empty() && item[0] == letter
 }
 
-/// Writes each frame to the output, as an item.
-#[tactic(auto, using(crate::proofs::Doing::sent_more, crate::proofs::Doing::sent_part, crate::proofs::Doing::sent_all, crate::proofs::Doing::does_nil))]
-fn send_all<O: Outside>(alloc: Global, frames: &Frames, outside: &mut O) -> Result<(), Fault>
-    ensures ok { OnOk result (Does (O.done outside.old) (O.done outside.new) (sends frames.now)) }
-    ensures err { OnErr result (Begins (O.done outside.old) (O.done outside.new)
-        (sends frames.now)) }
-    ensures of_turn { IfErr result (λ fault. is_of_turn fault ≡ true) }
+/// The bytes behind the first one.
+fn behind_first(item: &[u8]) -> &[u8]
+    requires { 1 ≤ length item.now }
+    ensures { result.now ≡ drop 1 item.now }
 {
-    for place in 0..frames.len() {
-        let Some(frame) = frames.get(place) else {
-            unreachable!()
-        };
-        send_frame(alloc, frame.bytes(), outside)?;
-    }
-    Ok(())
+    &item[1..]
 }
 
-/// Writes a frame to the output, as an item.
-#[tactic(auto, using(crate::proofs::Doing::may_nil))]
-fn send_frame<O: Outside>(alloc: Global, frame: &[u8], outside: &mut O) -> Result<(), Fault>
-    ensures ok { OnOk result (Does (O.done outside.old) (O.done outside.new)
-        (Sends (sized frame.now) ∷ [])) }
-    ensures err { OnErr result (MayDo (O.done outside.old) (O.done outside.new)
-        (Sends (sized frame.now))) }
-    ensures of_turn { IfErr result (λ fault. is_of_turn fault ≡ true) }
+/// The ticket behind the Q of a question.
+fn read_ticket(text: &[u8]) -> Result<(Index, Term), Refusal>
+    ensures { GivesExactly result (whole ticket text.now) }
 {
-    let item = item_of(alloc, frame)?;
-    match outside.send(item.as_slice()) {
-        Ok(()) => Ok(()),
-        Err(_) => Err(Fault::Output),
-    }
-}
-
-/// Hands the server what an item asks.
-fn hand<M: Machine>(
-    alloc: Global,
-    server: &mut Raft<M>,
-    item: &[u8],
-    frames: &mut Frames,
-) -> Result<(), Refusal>
-    requires { frames.old ≡ [] }
-    ensures taken { OnOk result (IsTaken M.meaning item.now server.old server.new frames.new) }
-    ensures refused { IfErr result (IsDeclined M.meaning item.now server.old server.new) }
-{
-    match proposal(item) {
-        Some(text) => {
-            let command = read_command::<M>(alloc, text)?;
-            server.propose(command)?;
-            Ok(())
-        }
-        None => server.step(input_of::<M>(item), frames),
-    }
-}
-
-/// The text behind the P of a proposal; none of another item.
-fn proposal(item: &[u8]) -> Option<&[u8]>
-    ensures { MatchOption result (is_proposal item.now ≡ false)
-        (λ text. (is_proposal item.now ≡ true) × (text.now ≡ drop 1 item.now)) }
-{
-    if !item.is_empty() && item[0] == b'P' {
-        Some(&item[1..])
+    let (index, at) = read_index(text, 0)?;
+    let (term, end) = read_term(text, at)?;
+    if end == text.len() {
+        Ok((index, term))
     } else {
-        None
+        Err(Refusal::Frame(end))
     }
 }
 
@@ -373,7 +142,7 @@ fn read_command<M: Machine>(alloc: Global, text: &[u8]) -> Result<M::Command, Re
     }
 }
 
-/// What an item is that is no proposal.
+/// What an item is that is neither a proposal nor a question.
 fn input_of<M: Machine>(item: &[u8]) -> Input<'_>
     ensures { handed {C = M.Command} result ≡ input_of {C = M.Command} item.now }
 {
@@ -385,5 +154,175 @@ fn input_of<M: Machine>(item: &[u8]) -> Input<'_>
         Input::Compact
     } else {
         Input::Frame(item)
+    }
+}
+
+impl<M: Words> Node<M> {
+    /// Reports how the server stands.
+    fn show(&self, alloc: Global, item: &[u8], outs: &mut Vec<Out>) -> Result<(), NoMemory>
+        requires { item.now ≡ codes "S" }
+        ensures { OnOk result ((more : List IoEvent)
+            × Turn M.meaning M.words M.reason item.now self.now self.now more
+            × (map event_of outs.new.items ≡ map event_of outs.old.items ++ more)) }
+    {
+        let line = status_line(alloc, &self.server)?;
+        put_line(line, outs)
+    }
+
+    /// Reports what the server knows of a ticket.
+    fn answer(&self, alloc: Global, item: &[u8], outs: &mut Vec<Out>) -> Result<(), NoMemory>
+        requires { is_question item.now ≡ true }
+        ensures { OnOk result ((more : List IoEvent)
+            × Turn M.meaning M.words M.reason item.now self.now self.now more
+            × (map event_of outs.new.items ≡ map event_of outs.old.items ++ more)) }
+    {
+        match read_ticket(behind_first(item)) {
+            Ok((index, term)) => {
+                let word = standing_word(self.server.standing(Ticket { index, term }));
+                let line = standing_line(alloc, index.get(), term.get(), word)?;
+                put_line(line, outs)
+            }
+            Err(refusal) => decline::<M>(alloc, refusal, outs),
+        }
+    }
+
+    /// Proposes a command.
+    fn propose(
+        &mut self,
+        alloc: Global,
+        item: &[u8],
+        change: &mut LogDelta,
+        outs: &mut Vec<Out>,
+    ) -> Result<(), NoMemory>
+        requires other { item.now ≢ codes "S" }
+        requires is { is_proposal item.now ≡ true }
+        ensures turn { OnOk result ((more : List IoEvent)
+            × Turn M.meaning M.words M.reason item.now self.old self.new more
+            × (map event_of outs.new.items ≡ map event_of outs.old.items ++ more)) }
+        ensures change { OnOk result ((first : Stored M M.Command) →
+            IsDelta change.old first (stored_part self.old) →
+            IsDelta change.new first (stored_part self.new)) }
+    {
+        let command = match read_command::<M>(alloc, behind_first(item)) {
+            Ok(command) => command,
+            Err(refusal) => return decline::<M>(alloc, refusal, outs),
+        };
+        let last = self.server.last();
+        let _covered = self.server.covered();
+        match self.server.propose(command) {
+            Ok(ticket) => {
+                *change = joined::<M>(*change, LogDelta::Behind(last));
+                let line = ticket_line(alloc, ticket.index.get(), ticket.term.get())?;
+                put_line(line, outs)
+            }
+            Err(refusal) => decline::<M>(alloc, refusal, outs),
+        }
+    }
+
+    /// Hands the server a frame, or an event of its own.
+    fn step(
+        &mut self,
+        alloc: Global,
+        item: &[u8],
+        change: &mut LogDelta,
+        outs: &mut Vec<Out>,
+    ) -> Result<(), NoMemory>
+        requires other { item.now ≢ codes "S" }
+        requires no_proposal { is_proposal item.now ≡ false }
+        requires no_question { is_question item.now ≡ false }
+        ensures turn { OnOk result ((more : List IoEvent)
+            × Turn M.meaning M.words M.reason item.now self.old self.new more
+            × (map event_of outs.new.items ≡ map event_of outs.old.items ++ more)) }
+        ensures change { OnOk result ((first : Stored M M.Command) →
+            IsDelta change.old first (stored_part self.old) →
+            IsDelta change.new first (stored_part self.new)) }
+    {
+        let before = remember(alloc, &self.server)?;
+        let mut frames = Frames::new(alloc);
+        match self.server.step(input_of::<M>(item), &mut frames) {
+            Ok(()) => {
+                let delta = delta_of(&self.server, item, &before);
+                *change = joined::<M>(*change, delta);
+                put_frames(alloc, &frames, outs)
+            }
+            Err(refusal) => decline::<M>(alloc, refusal, outs),
+        }
+    }
+}
+
+/// What an item that the server took changed of what it stores. Of a Compact it is not asked.
+fn delta_of<M: Machine>(server: &Raft<M>, item: &[u8], before: &Option<Before>) -> LogDelta
+    ensures { (old : RaftView M M.Command) → IfSome before.now (λ b. Remembers b old) →
+        MayKeepLog (input_of {C = M.Command} item.now) old server.now →
+        IsDelta result (stored_part old) (stored_part server.now) }
+{
+    if item == b"C".as_slice() {
+        return LogDelta::Whole;
+    }
+    match before {
+        Some(before) => changed(server, before),
+        None => LogDelta::Whole,
+    }
+}
+
+impl<M: Words> Actor for Node<M> {
+    type Part = Stable<M>;
+
+    type Change = LogDelta;
+
+    ghost replay = { raft_replay M.meaning };
+
+    ghost part = { stored_part };
+
+    ghost leads = { IsDelta };
+
+    ghost turn = { Turn M.meaning M.words M.reason };
+
+    ghost outputs = { outputs_alone M.meaning M.words M.reason };
+
+    fn unchanged() -> LogDelta {
+        LogDelta::Nothing
+    }
+
+    fn take(
+        &mut self,
+        alloc: Global,
+        item: &[u8],
+        change: &mut LogDelta,
+        outs: &mut Vec<Out>,
+    ) -> Result<(), NoMemory> {
+        if item == b"S".as_slice() {
+            self.show(alloc, item, outs)
+        } else if begins_with(item, b'P') {
+            self.propose(alloc, item, change, outs)
+        } else if begins_with(item, b'Q') {
+            self.answer(alloc, item, outs)
+        } else {
+            self.step(alloc, item, change, outs)
+        }
+    }
+
+    fn save(&self, change: &LogDelta, out: &mut Vec<u8>) -> Result<Saving, NoMemory> {
+        stable_texts_are_whole::<M>();
+        changes_lead::<M>();
+        match change {
+            LogDelta::Nothing => Ok(Saving::Nothing),
+            LogDelta::Whole => Ok(Saving::Whole),
+            LogDelta::Behind(keep) => {
+                let keep = *keep;
+                if keep.get() < self.server.covered().get()
+                    || keep.get() > self.server.last().get()
+                {
+                    return Ok(Saving::Whole);
+                }
+                self.server.write_change(keep, out)?;
+                Ok(Saving::Change)
+            }
+        }
+    }
+
+    fn whole(&self, out: &mut Vec<u8>) -> Result<(), NoMemory> {
+        stable_texts_are_whole::<M>();
+        self.server.write_stable(out)
     }
 }

@@ -1,11 +1,11 @@
 -- Who leads in the latest term.
-use Rattle.std.proofs.Common.{◌≡◌, ◌∙◌, ◌≤◌, ◌<◌, ◌∷◌, ℕ, Bool, true, false, Option, None, Some, List, [], ap, arith, fold, inl, inr, refl, subst, sym}
+use Rattle.std.proofs.Common.{◌≡◌, ◌∙◌, ◌≤◌, ◌<◌, ◌∷◌, Bool, true, false, Option, None, Some, List, [], ap, arith, fold, inl, inr, refl, subst, sym}
 use Rattle.std.specs.Prelude.{◌⊎◌, ◌||◌, MatchOption, if◌then◌else◌, nat_lt, option_map}
 use Rattle.std.specs.List.{list_any}
 use denote.Ref.{Bor}
 use Rattle.std.proofs.lemmas.Bool.{ltb-false, ltb-true, true≢false}
 use Rattle.expansion.specs.declared.standing.ServerStanding.{ServerStanding}
-use Rattle.expansion.specs.Inner.Standings.{IsLatestLeader, IsOneOf, NoneLater, later, later_of, later_than, leads}
+use Rattle.expansion.specs.Inner.Standings.{IsLatestLeader, IsOneOf, NoneLater, later, leads}
 
 -- what was found, after these servers more, where one that leads was found before
 record Latest (first : ServerStanding) (servers : List ServerStanding) (own : ServerStanding) : Type 0 where

@@ -1,5 +1,5 @@
 -- Lines that a group takes, one behind the other.
-use Rattle.std.proofs.Common.{◌≡◌, ◌≤◌, ◌∙◌, ◌+◌, ◌++◌, ◌∷◌, ℕ, Bool, true, false, Option, List, [], IfErr, IfOk, OnOk, Result, Ok, Err, String, ap, append_assoc, arith, inl, inr, length, length-append, map, refl, string_bytes, sym}
+use Rattle.std.proofs.Common.{◌≡◌, ◌≤◌, ◌∙◌, ◌+◌, ◌++◌, ◌∷◌, ℕ, Bool, true, false, Option, List, [], IfErr, OnOk, Result, Ok, Err, String, ap, append_assoc, arith, inl, inr, length, length-append, map, refl, string_bytes, sym}
 use Rattle.std.proofs.lemmas.List.{append-nil, length-map, map-append}
 use Rattle.std.specs.declared.alloc.Global.{Global}
 use Rattle.rows.specs.declared.node.NodeSpec.{NodeSpec}
@@ -7,7 +7,7 @@ use Rattle.rows.specs.declared.refusal.Refusal.{Refusal}
 use Rattle.scenario_file.specs.Complaints.{IsStepLine}
 use Rattle.scenario_file.specs.declared.scenario.Settings.{Settings}
 use Rattle.playing.specs.declared.play.Play.{Play}
-use Rattle.playing.specs.Played.{LinePlayed, LinesPlayed, Refused}
+use Rattle.playing.specs.Played.{LinePlayed, Refused}
 use Rattle.playing.specs.PlaySteps.{StepRefused, StepTaken}
 use Rattle.playing.specs.Plays.{IsNewPlay}
 use Rattle.playing.proofs.Steps.{one_more_played}

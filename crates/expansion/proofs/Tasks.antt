@@ -1,5 +1,5 @@
 -- How tasks are told by what a broker says of them.
-use Rattle.std.proofs.Common.{◌≡◌, Bool, true, false, Option, None, Some, ap, refl, sym}
+use Rattle.std.proofs.Common.{◌≡◌, Bool, false, Option, None, Some, ap, refl, sym}
 use Rattle.std.specs.Prelude.{◌||◌, ◌&&◌, is_some, nat_lt, not, option_map}
 use Rattle.rows.specs.State.{State}
 use Rattle.group_model.specs.Brokers.{Acked, Broker, Free, MOST, Mark, Out, Task, is_free}

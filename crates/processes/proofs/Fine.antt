@@ -16,17 +16,17 @@ use Rattle.group_model.specs.Inputs as inputs
 use Rattle.group_model.specs.Servers as servers
 use Rattle.group_model.specs.Servers.{Server}
 use Rattle.group_model.specs.Worlds.{event_at, log_request, LogEventFits}
-use Rattle.processes.specs.Logs.{part_of, stopped}
-use Rattle.processes.specs.Groups.{Actor, IsServer, IsClient, stored_of, stopped_by, IsOwn, Fits}
+use Rattle.processes.specs.Logs.{persistent_of, stopped}
+use Rattle.processes.specs.Groups.{GroupActor, GroupServer, GroupClient, store_of, stopped_by, IsServersOwn, ProposalFits}
 
-abbrev pub Fine : Actor → Type 0
-Fine (IsServer s) = (is_up s.raft.mode ≡ true) ⊎ (IsServer s ≡ stopped_by (stored_of (IsServer s)))
-Fine (IsClient x) = ⊤
+abbrev pub Fine : GroupActor → Type 0
+Fine (GroupServer s) = (is_up s.raft.mode ≡ true) ⊎ (GroupServer s ≡ stopped_by (store_of (GroupServer s)))
+Fine (GroupClient x) = ⊤
 
 -- the log's part
-pub raft_fine : {S C : Type 0} (m : Meaning S C) (n i : ℕ) (sent : List (Message C)) (s t : Raft C) (out : List (Message C)) → Turns m n i sent s t out → (is_up t.mode ≡ true) ⊎ (t ≡ stopped (part_of t))
+pub raft_fine : {S C : Type 0} (m : Meaning S C) (n i : ℕ) (sent : List (Message C)) (s t : Raft C) (out : List (Message C)) → Turns m n i sent s t out → (is_up t.mode ≡ true) ⊎ (t ≡ stopped (persistent_of t))
 raft_fine m n i sent s t out (walks up p) = inl (path_up m n i sent t out s up p)
-raft_fine m n i sent s t out (resets Down h up e o) = inr (e ∙ sym (ap (λ x. stopped (part_of x)) e))
+raft_fine m n i sent s t out (resets Down h up e o) = inr (e ∙ sym (ap (λ x. stopped (persistent_of x)) e))
 raft_fine m n i sent s t out (resets Follower h up e o) = inl (ap (λ (x : Raft _). is_up x.mode) e)
 raft_fine m n i sent s t out (resets (Candidate votes) h up e o) = absurd h
 raft_fine m n i sent s t out (resets (Leader next match) h up e o) = absurd h
@@ -34,17 +34,17 @@ raft_fine m n i sent s t out (resets (Leader next match) h up e o) = absurd h
 module _ (n i : ℕ) (s : Server) where
   -- the log has taken something
   logged_fine : (act : inputs.Act) (input : raft_steps.Input Command) (sent : List (Message Command)) → CameIn cluster_meaning sent i input → (r : Result (RaftTurn Command) Refusal) (turn : servers.ServerTurn) →
-      raft_steps.step cluster_meaning n i s.raft input ≡ r → servers.logged s act r ≡ Ok turn → Fine (IsServer turn.server)
+      raft_steps.step cluster_meaning n i s.raft input ≡ r → servers.logged s act r ≡ Ok turn → Fine (GroupServer turn.server)
   logged_fine act input sent came (Err cause) turn is h = absurd (cc)
   logged_fine act input sent came (Ok t) turn is h =
       let make : Raft Command → Server = λ x. record { raft = x; desk = desk_after s.raft x act.desk } in
-      subst (λ (x : servers.ServerTurn). Fine (IsServer x.server)) (same_ok _ _ h)
+      subst (λ (x : servers.ServerTurn). Fine (GroupServer x.server)) (same_ok _ _ h)
       (elim (raft_fine cluster_meaning n i sent s.raft t.server t.sent (step_path cluster_meaning n i sent s.raft input t came is)) [
         | inl up ↦ inl up
-        | inr e ↦ inr (ap (λ x. IsServer (make x)) e)
+        | inr e ↦ inr (ap (λ x. GroupServer (make x)) e)
       ])
 
-  pub log_message_fine : (message : Message Command) (turn : servers.ServerTurn) → message.to ≡ i → servers.takes_log_message n i s message ≡ Ok turn → Fine (IsServer turn.server)
+  pub log_message_fine : (message : Message Command) (turn : servers.ServerTurn) → message.to ≡ i → servers.takes_log_message n i s message ≡ Ok turn → Fine (GroupServer turn.server)
   log_message_fine message turn to h = logged_fine (inputs.rests s.desk) (raft_steps.Arrives message) (message ∷ []) ((0, refl), to) (raft_steps.step cluster_meaning n i s.raft (raft_steps.Arrives message)) turn refl h
 
   -- an item of its own, or a message
@@ -80,21 +80,21 @@ module _ (n i : ℕ) (s : Server) where
   asked_came inputs.AskCrash fits = tt
   asked_came inputs.AskRestart fits = tt
 
-  asks_fine : (act : inputs.Act) (ask : Option inputs.Ask) (turn : servers.ServerTurn) → (is_up s.raft.mode ≡ true) → LogEventFits (event_at i ask) → servers.asks_log n i s act ask ≡ Ok turn → Fine (IsServer turn.server)
-  asks_fine act None turn up fits h = subst (λ (x : servers.ServerTurn). Fine (IsServer x.server)) (same_ok _ _ h) (inl up)
+  asks_fine : (act : inputs.Act) (ask : Option inputs.Ask) (turn : servers.ServerTurn) → (is_up s.raft.mode ≡ true) → LogEventFits (event_at i ask) → servers.asks_log n i s act ask ≡ Ok turn → Fine (GroupServer turn.server)
+  asks_fine act None turn up fits h = subst (λ (x : servers.ServerTurn). Fine (GroupServer x.server)) (same_ok _ _ h) (inl up)
   asks_fine act (Some ask) turn up fits h = logged_fine act (inputs.input_of ask) [] (asked_came ask fits) (raft_steps.step cluster_meaning n i s.raft (inputs.input_of ask)) turn refl h
 
-  done_fine : (input : inputs.Input) (r : Result inputs.Act Refusal) (turn : servers.ServerTurn) → IsLive input → servers.decides n i s input ≡ r → LogEventFits (event_at i (log_request r)) → servers.done n i s r ≡ Ok turn → Fine (IsServer turn.server)
+  done_fine : (input : inputs.Input) (r : Result inputs.Act Refusal) (turn : servers.ServerTurn) → IsLive input → servers.decides n i s input ≡ r → LogEventFits (event_at i (log_request r)) → servers.done n i s r ≡ Ok turn → Fine (GroupServer turn.server)
   done_fine input (Err cause) turn live is fits h = absurd (cc)
   done_fine input (Ok act) turn live is fits h = elim (bool_cases (is_up s.raft.mode)) [
     | inl up ↦ asks_fine act act.ask turn up fits h
     | inr down ↦ absurd (wakes_none input act live (rw down at is))
   ]
 
-  pub step_fine : (input : inputs.Input) (turn : servers.ServerTurn) → IsLive input → Fits n i s input → servers.step n i s input ≡ Ok turn → Fine (IsServer turn.server)
+  pub step_fine : (input : inputs.Input) (turn : servers.ServerTurn) → IsLive input → ProposalFits n i s input → servers.step n i s input ≡ Ok turn → Fine (GroupServer turn.server)
   step_fine input turn live fits h = done_fine input (servers.decides n i s input) turn live refl fits h
 
-  pub own_live : (input : inputs.Input) → IsOwn input → IsLive input
+  pub own_live : (input : inputs.Input) → IsServersOwn input → IsLive input
   own_live (inputs.Arrives message) own = tt
   own_live inputs.Timeout own = tt
   own_live inputs.Beat own = tt

@@ -16,7 +16,7 @@ use Rattle.group_model.specs.Servers.{Server}
 use Rattle.group_model.specs.Agents as agents
 use Rattle.group_model.specs.Agents.{Agent, Life, new_life}
 use Rattle.group_model.specs.Worlds.{World, Event, Deliver, AtServer, AtClient, start, more, first, IsEvent, happens, delivers, delivers_service, message_to, input_to, after_turn, takes_input, own_input, client_takes, client_input_to, after_client, own_client_input, client_at, with_client, agents_from, event_at, asked_of, raft_input, raft_service, raft_delivery, LogEventFits}
-use Rattle.processes.specs.Claims.{IsAmong}
+use Rattle.processes.specs.Claims.{OccursIn}
 use Rattle.processes.proofs.Simulated.{OneEvent, IsSimulated}
 use Rattle.processes.specs.Logs as logs
 use Rattle.processes.specs.Groups as groups
@@ -40,60 +40,60 @@ same_name (groups.ClientOf c) (groups.ServerOf i) = inr (λ q. cc)
 same_name (groups.ClientOf c) (groups.ClientOf d) = elim (eqb_tells c d) [ inl e ↦ inl (ap groups.ClientOf e.1) | inr e ↦ inr (λ q. e.1 cc) ]
 
 -- what an actor is
-pub server_is : (x : Option Server) (s : Server) → groups.server_of x ≡ Some (groups.IsServer s) → x ≡ Some s
+pub server_is : (x : Option Server) (s : Server) → groups.as_server x ≡ Some (groups.GroupServer s) → x ≡ Some s
 server_is None s h = absurd (cc)
 server_is (Some t) s h = cc
 
-pub client_is : (x : Option Agent) (c : Agent) → groups.client_of x ≡ Some (groups.IsClient c) → x ≡ Some c
+pub client_is : (x : Option Agent) (c : Agent) → groups.as_client x ≡ Some (groups.GroupClient c) → x ≡ Some c
 client_is None c h = absurd (cc)
 client_is (Some t) c h = cc
 
 module _ (n : ℕ) (nodes : List NodeSpec) where
-  abbrev One : List Event → List World → World → groups.Who → groups.Actor → List GroupMessage → Type 0
+  abbrev One : List Event → List World → World → groups.Who → groups.GroupActor → List GroupMessage → Type 0
   One events past w k b out = OneEvent (groups.group_actors n nodes) (groups.group_abstraction n nodes) groups.stopped_by events past w k b out
 
-  module _ (events : List Event) (past : List World) (w : World) (reach : groups.Reaches n nodes events past w) where
+  module _ (events : List Event) (past : List World) (w : World) (reach : groups.GroupReaches n nodes events past w) where
     -- one event at a server
     server_more : (i : ℕ) (s : Server) (b : Server) (out : List GroupMessage) (e : Event) → slice_get w.servers i ≡ Some s → IsEvent w e →
-        happens w e ≡ Ok (record w { servers = slice_set w.servers i b; sent = w.sent ++ out }) → One events past w (groups.ServerOf i) (groups.IsServer b) out
+        happens w e ≡ Ok (record w { servers = slice_set w.servers i b; sent = w.sent ++ out }) → One events past w (groups.ServerOf i) (groups.GroupServer b) out
     server_more i s b out e here is h = record {
       event = e;
       next = record w { servers = slice_set w.servers i b; sent = w.sent ++ out };
       reach = (more e (record w { servers = slice_set w.servers i b; sent = w.sent ++ out }) reach.0 is h, set-length w.servers i b ∙ reach.1);
-      here = ap groups.server_of (get_set-same w.servers i b (get-within w.servers i s here));
+      here = ap groups.as_server (get_set-same w.servers i b (get-within w.servers i s here));
       others = others;
       sent_is = refl;
     }
       where
-        others : (j : groups.Who) → j ≢ groups.ServerOf i → groups.actor_of (record w { servers = slice_set w.servers i b; sent = w.sent ++ out }) j ≡ groups.actor_of w j
-        others (groups.ServerOf j) other = ap groups.server_of (get_set-other w.servers i b j (λ q. other (ap groups.ServerOf q)))
+        others : (j : groups.Who) → j ≢ groups.ServerOf i → groups.actor_named (record w { servers = slice_set w.servers i b; sent = w.sent ++ out }) j ≡ groups.actor_named w j
+        others (groups.ServerOf j) other = ap groups.as_server (get_set-other w.servers i b j (λ q. other (ap groups.ServerOf q)))
         others (groups.ClientOf c) other = refl
 
     -- one event at a client
     client_more : (c : ℕ) (x b : Agent) (out : List GroupMessage) (e : Event) → client_at w.clients c ≡ Some x → IsEvent w e →
-        happens w e ≡ Ok (record w { clients = with_client w.clients c b; sent = w.sent ++ out }) → One events past w (groups.ClientOf c) (groups.IsClient b) out
+        happens w e ≡ Ok (record w { clients = with_client w.clients c b; sent = w.sent ++ out }) → One events past w (groups.ClientOf c) (groups.GroupClient b) out
     client_more c x b out e here is h = record {
       event = e;
       next = record w { clients = with_client w.clients c b; sent = w.sent ++ out };
       reach = (more e (record w { clients = with_client w.clients c b; sent = w.sent ++ out }) reach.0 is h, reach.1);
-      here = ap groups.client_of (client_same w.clients c x b here);
+      here = ap groups.as_client (client_same w.clients c x b here);
       others = others;
       sent_is = refl;
     }
       where
-        others : (j : groups.Who) → j ≢ groups.ClientOf c → groups.actor_of (record w { clients = with_client w.clients c b; sent = w.sent ++ out }) j ≡ groups.actor_of w j
+        others : (j : groups.Who) → j ≢ groups.ClientOf c → groups.actor_named (record w { clients = with_client w.clients c b; sent = w.sent ++ out }) j ≡ groups.actor_named w j
         others (groups.ServerOf j) other = refl
-        others (groups.ClientOf d) other = ap groups.client_of (client_other w.clients c b d (λ q. other (ap groups.ClientOf q)))
+        others (groups.ClientOf d) other = ap groups.as_client (client_other w.clients c b d (λ q. other (ap groups.ClientOf q)))
 
     -- a server's input
     takes_is : (i : ℕ) (s : Server) (input : inputs.Input) (turn : servers.ServerTurn) → slice_get w.servers i ≡ Some s → servers.step n i s input ≡ Ok turn →
         takes_input w i input ≡ Ok (record w { servers = slice_set w.servers i turn.server; sent = w.sent ++ turn.sent })
     takes_is i s input turn here h = ap (input_to w i input) here ∙ ap (after_turn w i) (subst (λ k. servers.step k i s input ≡ Ok turn) (sym reach.1) h)
 
-    fits_is : (i : ℕ) (s : Server) (input : inputs.Input) → slice_get w.servers i ≡ Some s → groups.Fits n i s input → LogEventFits (raft_input w i input)
-    fits_is i s input here fits = subst (λ x. LogEventFits (event_at i (asked_of w i input x))) (sym here) (subst (λ k. groups.Fits k i s input) (sym reach.1) fits)
+    fits_is : (i : ℕ) (s : Server) (input : inputs.Input) → slice_get w.servers i ≡ Some s → groups.ProposalFits n i s input → LogEventFits (raft_input w i input)
+    fits_is i s input here fits = subst (λ x. LogEventFits (event_at i (asked_of w i input x))) (sym here) (subst (λ k. groups.ProposalFits k i s input) (sym reach.1) fits)
 
-    own_is : (i : ℕ) (input : inputs.Input) → groups.IsOwn input → own_input w i input ≡ takes_input w i input
+    own_is : (i : ℕ) (input : inputs.Input) → groups.IsServersOwn input → own_input w i input ≡ takes_input w i input
     own_is i (inputs.Arrives message) own = absurd own
     own_is i inputs.Timeout own = refl
     own_is i inputs.Beat own = refl
@@ -117,7 +117,7 @@ module _ (n : ℕ) (nodes : List NodeSpec) where
         client_takes w c input ≡ Ok (record w { clients = with_client w.clients c turn.client; sent = w.sent ++ map Service turn.sent })
     client_takes_is c x input turn here h = ap (client_input_to w c input) here ∙ ap (after_client w c) (subst (λ k. agents.step k x input ≡ Ok turn) (sym reach.1) h)
 
-    client_own_is : (c : ℕ) (input : agents.Input) → groups.IsOwnOfClient input → own_client_input w c input ≡ client_takes w c input
+    client_own_is : (c : ℕ) (input : agents.Input) → groups.IsClientsOwn input → own_client_input w c input ≡ client_takes w c input
     client_own_is c (agents.Arrives from response) own = absurd own
     client_own_is c (agents.RegisterAt server) own = refl
     client_own_is c (agents.Ping server) own = refl
@@ -127,8 +127,8 @@ module _ (n : ℕ) (nodes : List NodeSpec) where
     client_own_is c agents.Restart own = absurd own
 
     -- a message of the log
-    log_does : (i : ℕ) (s : Server) (message : Message Command) (turn : servers.ServerTurn) → slice_get w.servers i ≡ Some s → IsAmong w.sent (OfLog message) → message.to ≡ i →
-        servers.takes_log_message n i s message ≡ Ok turn → One events past w (groups.ServerOf i) (groups.IsServer turn.server) turn.sent
+    log_does : (i : ℕ) (s : Server) (message : Message Command) (turn : servers.ServerTurn) → slice_get w.servers i ≡ Some s → OccursIn w.sent (OfLog message) → message.to ≡ i →
+        servers.takes_log_message n i s message ≡ Ok turn → One events past w (groups.ServerOf i) (groups.GroupServer turn.server) turn.sent
     log_does i s message turn here among to h = server_more i s turn.server turn.sent (Deliver among.0) here
         (subst (λ x. LogEventFits (raft_delivery w among.0 x)) (sym among.1) tt)
         (ap (delivers w) among.1 ∙ (ap (λ k. message_to w k message (slice_get w.servers k)) to ∙ (ap (message_to w i message) here ∙ ap (after_turn w i) (subst (λ k. servers.takes_log_message k i s message ≡ Ok turn) (sym reach.1) h))))
@@ -139,8 +139,8 @@ module _ (n : ℕ) (nodes : List NodeSpec) where
     service_is i (ToServer client server request) is = subst (λ k. (raft_service w (ToServer client server request) ≡ raft_input w k (inputs.Arrives (ToServer client server request))) × (delivers_service w (ToServer client server request) ≡ takes_input w k (inputs.Arrives (ToServer client server request)))) is (refl, refl)
     service_is i (ToClient server client response) is = absurd is
 
-    service_does : (i : ℕ) (s : Server) (message : ServiceMessage) (turn : servers.ServerTurn) → slice_get w.servers i ≡ Some s → IsAmong w.sent (Service message) → groups.IsFor i message →
-        groups.Fits n i s (inputs.Arrives message) → servers.step n i s (inputs.Arrives message) ≡ Ok turn → One events past w (groups.ServerOf i) (groups.IsServer turn.server) turn.sent
+    service_does : (i : ℕ) (s : Server) (message : ServiceMessage) (turn : servers.ServerTurn) → slice_get w.servers i ≡ Some s → OccursIn w.sent (Service message) → groups.IsFor i message →
+        groups.ProposalFits n i s (inputs.Arrives message) → servers.step n i s (inputs.Arrives message) ≡ Ok turn → One events past w (groups.ServerOf i) (groups.GroupServer turn.server) turn.sent
     service_does i s message turn here among is fits h =
         let q = service_is i message is in
         server_more i s turn.server turn.sent (Deliver among.0) here
@@ -148,7 +148,7 @@ module _ (n : ℕ) (nodes : List NodeSpec) where
         (ap (delivers w) among.1 ∙ (q.1 ∙ takes_is i s (inputs.Arrives message) turn here h))
 
     -- who takes an item makes an event
-    does : (k : groups.Who) (a b : groups.Actor) (input : groups.Item) (out : List GroupMessage) → groups.actor_of w k ≡ Some a → groups.Takes n w.sent k a input b out → One events past w k b out
+    does : (k : groups.Who) (a b : groups.GroupActor) (input : groups.Item) (out : List GroupMessage) → groups.actor_named w k ≡ Some a → groups.GroupTakes n w.sent k a input b out → One events past w k b out
     does k a b item out here (groups.log_comes i s message turn among to h) = log_does i s message turn (server_is _ s here) among to h
     does k a b item out here (groups.server_comes i s message turn among is fits h) = service_does i s message turn (server_is _ s here) among is fits h
     does k a b item out here (groups.client_comes c x server response turn among h) =
@@ -161,7 +161,7 @@ module _ (n : ℕ) (nodes : List NodeSpec) where
         client_more c x turn.client (map Service turn.sent) (AtClient c input) (client_is _ x here) tt (client_own_is c input own ∙ client_takes_is c x input turn (client_is _ x here) h)
 
     -- a crash
-    server_falls : (i : ℕ) (s : Server) → slice_get w.servers i ≡ Some s → is_up s.raft.mode ≡ true → One events past w (groups.ServerOf i) (groups.stopped_by (groups.stored_of (groups.IsServer s))) []
+    server_falls : (i : ℕ) (s : Server) → slice_get w.servers i ≡ Some s → is_up s.raft.mode ≡ true → One events past w (groups.ServerOf i) (groups.stopped_by (groups.store_of (groups.GroupServer s))) []
     server_falls i s here up =
         let turn : servers.ServerTurn = record { server = record { raft = crashed s.raft; desk = None }; sent = []; work = [] } in
         let decided : servers.decides n i s inputs.Crash ≡ Ok (inputs.asks inputs.AskCrash s.desk) = rw up refl in
@@ -169,77 +169,77 @@ module _ (n : ℕ) (nodes : List NodeSpec) where
         server_more i s (record { raft = crashed s.raft; desk = None }) [] (AtServer i inputs.Crash) here (fits_is i s inputs.Crash here (rw up tt)) (takes_is i s inputs.Crash turn here (ap (servers.done n i s) decided ∙ ap (servers.logged s (inputs.asks inputs.AskCrash s.desk)) stepped))
 
     client_falls : (c : ℕ) (x : Agent) (life : Option Life) → x.life ≡ life → client_at w.clients c ≡ Some x →
-        (groups.IsClient x ≡ groups.stopped_by (groups.stored_of (groups.IsClient x))) ⊎ One events past w (groups.ClientOf c) (groups.stopped_by (groups.stored_of (groups.IsClient x))) []
-    client_falls c x None e here = inl (ap (λ l. groups.IsClient (record { node = x.node; started = x.started; life = l })) e)
+        (groups.GroupClient x ≡ groups.stopped_by (groups.store_of (groups.GroupClient x))) ⊎ One events past w (groups.ClientOf c) (groups.stopped_by (groups.store_of (groups.GroupClient x))) []
+    client_falls c x None e here = inl (ap (λ l. groups.GroupClient (record { node = x.node; started = x.started; life = l })) e)
     client_falls c x (Some l) e here =
         let turn : agents.AgentTurn = record { client = record x { life = None }; sent = [] } in
         inr (client_more c x (record x { life = None }) [] (AtClient c agents.Crash) here tt (client_takes_is c x agents.Crash turn here (ap (λ y. agents.step_of n x y agents.Crash) e)))
 
-    crashes : (k : groups.Who) (a : groups.Actor) → groups.actor_of w k ≡ Some a → Fine a → (a ≡ groups.stopped_by (groups.stored_of a)) ⊎ One events past w k (groups.stopped_by (groups.stored_of a)) []
-    crashes (groups.ServerOf i) (groups.IsServer s) here (inl up) = inr (server_falls i s (server_is _ s here) up)
-    crashes (groups.ServerOf i) (groups.IsServer s) here (inr e) = inl e
-    crashes (groups.ServerOf i) (groups.IsClient x) here fine = absurd (no_server (slice_get w.servers i) x here)
+    crashes : (k : groups.Who) (a : groups.GroupActor) → groups.actor_named w k ≡ Some a → Fine a → (a ≡ groups.stopped_by (groups.store_of a)) ⊎ One events past w k (groups.stopped_by (groups.store_of a)) []
+    crashes (groups.ServerOf i) (groups.GroupServer s) here (inl up) = inr (server_falls i s (server_is _ s here) up)
+    crashes (groups.ServerOf i) (groups.GroupServer s) here (inr e) = inl e
+    crashes (groups.ServerOf i) (groups.GroupClient x) here fine = absurd (no_server (slice_get w.servers i) x here)
       where
-        no_server : (y : Option Server) (x : Agent) → groups.server_of y ≡ Some (groups.IsClient x) → ⊥
+        no_server : (y : Option Server) (x : Agent) → groups.as_server y ≡ Some (groups.GroupClient x) → ⊥
         no_server None x h = cc
         no_server (Some s) x h = cc
-    crashes (groups.ClientOf c) (groups.IsServer s) here fine = absurd (no_client (client_at w.clients c) s here)
+    crashes (groups.ClientOf c) (groups.GroupServer s) here fine = absurd (no_client (client_at w.clients c) s here)
       where
-        no_client : (y : Option Agent) (s : Server) → groups.client_of y ≡ Some (groups.IsServer s) → ⊥
+        no_client : (y : Option Agent) (s : Server) → groups.as_client y ≡ Some (groups.GroupServer s) → ⊥
         no_client None s h = cc
         no_client (Some x) s h = cc
-    crashes (groups.ClientOf c) (groups.IsClient x) here fine = client_falls c x x.life refl (client_is _ x here)
+    crashes (groups.ClientOf c) (groups.GroupClient x) here fine = client_falls c x x.life refl (client_is _ x here)
 
     -- a restart
-    server_wakes : (i : ℕ) (p : logs.Part Command) → slice_get w.servers i ≡ Some (record { raft = logs.stopped p; desk = None }) → One events past w (groups.ServerOf i) (groups.started_by (groups.OfServer p)) []
+    server_wakes : (i : ℕ) (p : logs.Persistent Command) → slice_get w.servers i ≡ Some (record { raft = logs.stopped p; desk = None }) → One events past w (groups.ServerOf i) (groups.begun_by (groups.OfServer p)) []
     server_wakes i p here =
         let s : Server = record { raft = logs.stopped p; desk = None } in
         let turn : servers.ServerTurn = record { server = record { raft = logs.started p; desk = None }; sent = []; work = [] } in
         server_more i s (record { raft = logs.started p; desk = None }) [] (AtServer i inputs.Restart) here (fits_is i s inputs.Restart here tt) (takes_is i s inputs.Restart turn here refl)
 
-    client_wakes : (c : ℕ) (node : NodeSpec) (ids : List _) → client_at w.clients c ≡ Some (record { node = node; started = ids; life = None }) → One events past w (groups.ClientOf c) (groups.started_by (groups.OfClient node ids)) []
+    client_wakes : (c : ℕ) (node : NodeSpec) (ids : List _) → client_at w.clients c ≡ Some (record { node = node; started = ids; life = None }) → One events past w (groups.ClientOf c) (groups.begun_by (groups.OfClient node ids)) []
     client_wakes c node ids here =
         let x : Agent = record { node = node; started = ids; life = None } in
         let turn : agents.AgentTurn = record { client = record { node = node; started = ids; life = Some new_life }; sent = [] } in
         client_more c x (record { node = node; started = ids; life = Some new_life }) [] (AtClient c agents.Restart) here tt (client_takes_is c x agents.Restart turn here refl)
 
-    restarts : (k : groups.Who) (p : groups.Stored) → groups.actor_of w k ≡ Some (groups.stopped_by p) → One events past w k (groups.started_by p) []
+    restarts : (k : groups.Who) (p : groups.GroupStore) → groups.actor_named w k ≡ Some (groups.stopped_by p) → One events past w k (groups.begun_by p) []
     restarts (groups.ServerOf i) (groups.OfServer p) here = server_wakes i p (server_is _ _ here)
     restarts (groups.ServerOf i) (groups.OfClient node ids) here = absurd (no_server (slice_get w.servers i) _ here)
       where
-        no_server : (y : Option Server) (x : Agent) → groups.server_of y ≡ Some (groups.IsClient x) → ⊥
+        no_server : (y : Option Server) (x : Agent) → groups.as_server y ≡ Some (groups.GroupClient x) → ⊥
         no_server None x h = cc
         no_server (Some s) x h = cc
     restarts (groups.ClientOf c) (groups.OfServer p) here = absurd (no_client (client_at w.clients c) _ here)
       where
-        no_client : (y : Option Agent) (s : Server) → groups.client_of y ≡ Some (groups.IsServer s) → ⊥
+        no_client : (y : Option Agent) (s : Server) → groups.as_client y ≡ Some (groups.GroupServer s) → ⊥
         no_client None s h = cc
         no_client (Some x) s h = cc
     restarts (groups.ClientOf c) (groups.OfClient node ids) here = client_wakes c node ids (client_is _ _ here)
 
   -- what may come may come where more left
-  grows : (left sent : List GroupMessage) (k : groups.Who) (a b : groups.Actor) (input : groups.Item) (out : List GroupMessage) → ((x : GroupMessage) → IsAmong left x → IsAmong sent x) →
-      groups.Takes n left k a input b out → groups.Takes n sent k a input b out
+  grows : (left sent : List GroupMessage) (k : groups.Who) (a b : groups.GroupActor) (input : groups.Item) (out : List GroupMessage) → ((x : GroupMessage) → OccursIn left x → OccursIn sent x) →
+      groups.GroupTakes n left k a input b out → groups.GroupTakes n sent k a input b out
   grows left sent k a b item out on (groups.log_comes i s message turn among to h) = groups.log_comes i s message turn (on _ among) to h
   grows left sent k a b item out on (groups.server_comes i s message turn among is fits h) = groups.server_comes i s message turn (on _ among) is fits h
   grows left sent k a b item out on (groups.client_comes c x server response turn among h) = groups.client_comes c x server response turn (on _ among) h
   grows left sent k a b item out on (groups.server_own i s input turn own fits h) = groups.server_own i s input turn own fits h
   grows left sent k a b item out on (groups.client_own c x input turn own h) = groups.client_own c x input turn own h
 
-  fine_takes : (sent : List GroupMessage) (k : groups.Who) (a b : groups.Actor) (input : groups.Item) (out : List GroupMessage) → Fine a → groups.Takes n sent k a input b out → Fine b
+  fine_takes : (sent : List GroupMessage) (k : groups.Who) (a b : groups.GroupActor) (input : groups.Item) (out : List GroupMessage) → Fine a → groups.GroupTakes n sent k a input b out → Fine b
   fine_takes sent k a b item out fine (groups.log_comes i s message turn among to h) = log_message_fine n i s message turn to h
   fine_takes sent k a b item out fine (groups.server_comes i s message turn among is fits h) = step_fine n i s (inputs.Arrives message) turn tt fits h
   fine_takes sent k a b item out fine (groups.client_comes c x server response turn among h) = tt
   fine_takes sent k a b item out fine (groups.server_own i s input turn own fits h) = step_fine n i s input turn (own_live n i s input own) fits h
   fine_takes sent k a b item out fine (groups.client_own c x input turn own h) = tt
 
-  fine_begin : (p : groups.Stored) → Fine (groups.started_by p)
+  fine_begin : (p : groups.GroupStore) → Fine (groups.begun_by p)
   fine_begin (groups.OfServer p) = inl refl
   fine_begin (groups.OfClient node ids) = tt
 
-  part_begin : (p : groups.Stored) → groups.stored_of (groups.started_by p) ≡ p
-  part_begin (groups.OfServer p) = refl
-  part_begin (groups.OfClient node ids) = refl
+  store_begin : (p : groups.GroupStore) → groups.store_of (groups.begun_by p) ≡ p
+  store_begin (groups.OfServer p) = refl
+  store_begin (groups.OfClient node ids) = refl
 
   -- before the first event
   newcomers : (k i : ℕ) → i < k → slice_get (replicate k servers.newcomer) i ≡ Some servers.newcomer
@@ -256,12 +256,12 @@ module _ (n : ℕ) (nodes : List NodeSpec) where
   client_life zero x h = absurd (cc)
   client_life (suc c) x h = new_lives 1 nodes c x h
 
-  first_actor : (k : groups.Who) → groups.IsThere n nodes k → groups.actor_of (first n nodes) k ≡ Some (groups.started_by (groups.stored_first nodes k))
-  first_actor (groups.ServerOf i) less = ap groups.server_of (newcomers n i less)
+  first_actor : (k : groups.Who) → groups.IsThere n nodes k → groups.actor_named (first n nodes) k ≡ Some (groups.begun_by (groups.stored_first nodes k))
+  first_actor (groups.ServerOf i) less = ap groups.as_server (newcomers n i less)
   first_actor (groups.ClientOf c) there =
       let x = there.0 in
-      subst (λ y. groups.client_of y ≡ Some (groups.started_by (groups.stored_at_first y))) (sym there.1)
-      (ap (λ l. Some (groups.IsClient (record { node = x.node; started = x.started; life = l }))) (client_life c x there.1))
+      subst (λ y. groups.as_client y ≡ Some (groups.begun_by (groups.stored_at_first y))) (sym there.1)
+      (ap (λ l. Some (groups.GroupClient (record { node = x.node; started = x.started; life = l }))) (client_life c x there.1))
 
   pub is_simulated : IsSimulated (groups.group_actors n nodes) (groups.group_abstraction n nodes) groups.stopped_by Fine
   is_simulated = record {
@@ -273,7 +273,7 @@ module _ (n : ℕ) (nodes : List NodeSpec) where
     does = λ events past w k a b input out reach here t. does events past w reach k a b input out here t;
     crashes = λ events past w k a reach here fine. crashes events past w reach k a here fine;
     restarts = λ events past w k p reach here. restarts events past w reach k p here;
-    part_begin = part_begin;
+    store_begin = store_begin;
     fine_begin = fine_begin;
     fine_takes = fine_takes;
   }

@@ -11,10 +11,10 @@ use Rattle.group_safety.specs.Claims.{ServerAt, AgentAt, logs}
 use Rattle.group_safety.proofs.Chained as chained
 use Rattle.group_safety.proofs.Placings.{placed}
 use Rattle.group_safety.proofs.DeskRuns.{server_log}
-use Rattle.processes.specs.Processes.{System, Told, Execution}
+use Rattle.processes.specs.Processes.{System, ToldActor, Execution}
 use Rattle.processes.specs.Claims as claims
-use Rattle.processes.specs.Groups.{ServerOf, ClientOf, IsServer, IsClient, group_actors, group_abstraction, stopped_by}
-use Rattle.processes.specs.Headline.{Keeps, ServerTold, ClientTold}
+use Rattle.processes.specs.Groups.{ServerOf, ClientOf, GroupServer, GroupClient, group_actors, group_abstraction, stopped_by}
+use Rattle.processes.specs.Headline.{KeepsPromises, ServerTold, ClientTold}
 use Rattle.processes.proofs.Fine.{Fine}
 use Rattle.processes.proofs.Groups.{is_simulated, server_is, client_is}
 use Rattle.processes.proofs.Generic.{refines}
@@ -33,18 +33,18 @@ module _ (n : ℕ) (nodes : List NodeSpec) (before : List (System (group_actors 
   -- a server that was told was so
   server_at : (k i : ℕ) (s : Server) → ServerTold n nodes g k i s → (l : ℕ) × ServerAt W.past W.world l i s
   server_at k i s h =
-      let t : Told (group_actors n nodes) = record { who = ServerOf i; actor = IsServer s } in
+      let t : ToldActor (group_actors n nodes) = record { who = ServerOf i; actor = GroupServer s } in
       let a = W.told k k t t (omega arith) h h in
       (a.first, record { world = a.first_at.world; world_is = a.first_at.world_is; here = server_is _ s a.first_at.here })
 
   -- and so was a client
   client_told_at : (k i : ℕ) (x : Agent) → ClientTold n nodes g k i x → (l : ℕ) × AgentAt W.past W.world l i x
   client_told_at k i x h =
-      let t : Told (group_actors n nodes) = record { who = ClientOf i; actor = IsClient x } in
+      let t : ToldActor (group_actors n nodes) = record { who = ClientOf i; actor = GroupClient x } in
       let a = W.told k k t t (omega arith) h h in
       (a.first, record { world = a.first_at.world; world_is = a.first_at.world_is; here = client_is _ x a.first_at.here })
 
-  pub keeps : Keeps n nodes g
+  pub keeps : KeepsPromises n nodes g
   keeps =
       let one = chained.one_list n nodes W.events W.past W.world W.reach.0 in
       record {

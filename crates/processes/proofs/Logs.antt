@@ -15,10 +15,10 @@ use Rattle.raft_safety.proofs.Chains.{st, chain, log_matching}
 use Rattle.raft_safety.proofs.Settling.{settled as committed_settled}
 use Rattle.raft_model.specs.Logs.{term_at}
 use Rattle.processes.specs.Processes.{System, Execution}
-use Rattle.processes.specs.Claims.{IsAmong, RefinesWorld}
+use Rattle.processes.specs.Claims.{OccursIn, RefinesWorld}
 use Rattle.processes.proofs.Simulated.{OneEvent, IsSimulated}
 use Rattle.processes.specs.Claims as claims
-use Rattle.processes.specs.Logs.{Part, part_of, started, stopped, IsOffered, log_actors, log_abstraction, KeepsOneList}
+use Rattle.processes.specs.Logs.{Persistent, persistent_of, started, stopped, IsOffered, log_actors, log_abstraction, KeepsOneList}
 use Rattle.processes.proofs.Generic.{refines}
 use Rattle.processes.proofs.Fine.{raft_fine}
 
@@ -32,7 +32,7 @@ get_set-other (z ∷ zs) (suc i) x (suc j) h = get_set-other zs i x j (λ e. h (
 
 module _ {S C : Type 0} (m : Meaning S C) (n : ℕ) where
   abbrev UpOrStopped : Raft C → Type 0
-  UpOrStopped s = (is_up s.mode ≡ true) ⊎ (s ≡ stopped (part_of s))
+  UpOrStopped s = (is_up s.mode ≡ true) ⊎ (s ≡ stopped (persistent_of s))
 
   module _ (events : List (Event C)) (past : List (World C)) (w : World C) (reach : Run m n events past w) where
     abbrev One : ℕ → Raft C → List (Message C) → Type 0
@@ -65,14 +65,14 @@ module _ {S C : Type 0} (m : Meaning S C) (n : ℕ) where
     does_one i s b Crash out here offered h = absurd offered
     does_one i s b Restart out here offered h = absurd offered
 
-    crashes : (i : ℕ) (s : Raft C) → slice_get w.servers i ≡ Some s → UpOrStopped s → (s ≡ stopped (part_of s)) ⊎ One i (stopped (part_of s)) []
+    crashes : (i : ℕ) (s : Raft C) → slice_get w.servers i ≡ Some s → UpOrStopped s → (s ≡ stopped (persistent_of s)) ⊎ One i (stopped (persistent_of s)) []
     crashes i s here (inl up) = inr (server_more i s (crashed s) [] (Crashes i) here tt (takes_is i s (crashed s) Crash [] here (rw up refl)))
     crashes i s here (inr e) = inl e
 
-    restarts : (i : ℕ) (p : Part C) → slice_get w.servers i ≡ Some (stopped p) → One i (started p) []
+    restarts : (i : ℕ) (p : Persistent C) → slice_get w.servers i ≡ Some (stopped p) → One i (started p) []
     restarts i p here = server_more i (stopped p) (started p) [] (Restarts i) here tt (takes_is i (stopped p) (started p) Restart [] here refl)
 
-  grows : (left sent : List (Message C)) (i : ℕ) (input : Input C) → ((x : Message C) → IsAmong left x → IsAmong sent x) → IsOffered m n left i input → IsOffered m n sent i input
+  grows : (left sent : List (Message C)) (i : ℕ) (input : Input C) → ((x : Message C) → OccursIn left x → OccursIn sent x) → IsOffered m n left i input → IsOffered m n sent i input
   grows left sent i (Arrives message) on offered = (on message offered.0, offered.1)
   grows left sent i Timeout on offered = tt
   grows left sent i Beat on offered = tt
@@ -90,7 +90,7 @@ module _ {S C : Type 0} (m : Meaning S C) (n : ℕ) where
   came sent i Crash offered = tt
   came sent i Restart offered = tt
 
-  newcomers : (k i : ℕ) → i < k → slice_get (replicate k newcomer) i ≡ Some (started (part_of {C = C} newcomer))
+  newcomers : (k i : ℕ) → i < k → slice_get (replicate k newcomer) i ≡ Some (started (persistent_of {C = C} newcomer))
   newcomers zero i less = absurd (omega (arith, less))
   newcomers (suc k) zero less = refl
   newcomers (suc k) (suc i) less = newcomers k i (omega (arith, less))
@@ -108,7 +108,7 @@ module _ {S C : Type 0} (m : Meaning S C) (n : ℕ) where
     does = λ events past w i a b input out reach here t. does_one events past w reach i a b input out here t.0 t.1;
     crashes = λ events past w i a reach here fine. crashes events past w reach i a here fine;
     restarts = λ events past w i p reach here. restarts events past w reach i p here;
-    part_begin = λ p. refl;
+    store_begin = λ p. refl;
     fine_begin = λ p. inl refl;
     fine_takes = λ sent i a b input out fine t. raft_fine m n i sent a b out (step_path m n i sent a input (record { server = b; sent = out }) (came sent i input t.0) t.1);
   }
@@ -131,7 +131,7 @@ module _ {S C : Type 0} (m : Meaning S C) (n : ℕ) (before : List (System (log_
   pub log_world : RefinesWorld (log_actors m n) (log_abstraction m n) stopped before g
   log_world = refines (log_actors m n) (log_abstraction m n) stopped (UpOrStopped m n) (log_is_simulated m n) before g c
 
-  at_of : (past : List (World C)) (w : World C) (l i : ℕ) (s : Raft C) → claims.At (log_actors m n) (log_abstraction m n) stopped past w l i s → At past w l i s
+  at_of : (past : List (World C)) (w : World C) (l i : ℕ) (s : Raft C) → claims.WasAt (log_actors m n) (log_abstraction m n) stopped past w l i s → At past w l i s
   at_of past w l i s a = record { world = a.world; world_is = a.world_is; here = a.here }
 
   pub keeps_one_list : LawfulMachine m → KeepsOneList m n g

@@ -14,41 +14,41 @@ use Rattle.group_model.specs.Agents.{Agent, new_life}
 use Rattle.group_model.specs.Worlds.{World, Event, Run, agents_from, client_at, event_at}
 use Rattle.group_model.specs.Worlds.{log_request, LogEventFits}
 use Rattle.processes.specs.Processes.{Actors}
-use Rattle.processes.specs.Logs.{Part, part_of, new_part, started, stopped}
-use Rattle.processes.specs.Claims.{Abstraction, IsAmong}
+use Rattle.processes.specs.Logs.{Persistent, persistent_of, nothing_persistent, started, stopped}
+use Rattle.processes.specs.Claims.{Abstraction, OccursIn}
 
 -- servers count from 0, clients from 1
 pub data Who : Type 0 where
   ServerOf : (place : ℕ) → Who
   ClientOf : (number : ℕ) → Who
 
-pub data Actor : Type 0 where
-  IsServer : (server : Server) → Actor
-  IsClient : (client : Agent) → Actor
+pub data GroupActor : Type 0 where
+  GroupServer : (server : Server) → GroupActor
+  GroupClient : (client : Agent) → GroupActor
 
 -- A server stores its part of the log; a client the ids that it ever started, and its node is told
 -- to it again.
-pub data Stored : Type 0 where
-  OfServer : (stored : Part Command) → Stored
-  OfClient : (node : NodeSpec) (ids : List AllocId) → Stored
+pub data GroupStore : Type 0 where
+  OfServer : (stored : Persistent Command) → GroupStore
+  OfClient : (node : NodeSpec) (ids : List AllocId) → GroupStore
 
-abbrev pub stored_of : Actor → Stored
-stored_of (IsServer s) = OfServer (part_of s.raft)
-stored_of (IsClient x) = OfClient x.node x.started
+abbrev pub store_of : GroupActor → GroupStore
+store_of (GroupServer s) = OfServer (persistent_of s.raft)
+store_of (GroupClient x) = OfClient x.node x.started
 
-abbrev pub started_by : Stored → Actor
-started_by (OfServer p) = IsServer (record { raft = started p; desk = None })
-started_by (OfClient node ids) =
-    IsClient (record { node = node; started = ids; life = Some new_life })
+abbrev pub begun_by : GroupStore → GroupActor
+begun_by (OfServer p) = GroupServer (record { raft = started p; desk = None })
+begun_by (OfClient node ids) =
+    GroupClient (record { node = node; started = ids; life = Some new_life })
 
 -- the same, not yet started
-abbrev pub stopped_by : Stored → Actor
-stopped_by (OfServer p) = IsServer (record { raft = stopped p; desk = None })
+abbrev pub stopped_by : GroupStore → GroupActor
+stopped_by (OfServer p) = GroupServer (record { raft = stopped p; desk = None })
 stopped_by (OfClient node ids) =
-    IsClient (record { node = node; started = ids; life = None })
+    GroupClient (record { node = node; started = ids; life = None })
 
-abbrev pub stored_at_first : Option Agent → Stored
-stored_at_first None = OfServer new_part
+abbrev pub stored_at_first : Option Agent → GroupStore
+stored_at_first None = OfServer nothing_persistent
 stored_at_first (Some x) = OfClient x.node x.started
 
 -- what an item is: a message that came, or an input of its own
@@ -58,17 +58,17 @@ pub data Item : Type 0 where
   ClientInput : (input : agents.Input) → Item
 
 -- an input of a server's own; it dies and starts otherwise
-abbrev pub IsOwn : inputs.Input → Type 0
-IsOwn (inputs.Arrives message) = ⊥
-IsOwn inputs.Crash = ⊥
-IsOwn inputs.Restart = ⊥
-IsOwn _ = ⊤
+abbrev pub IsServersOwn : inputs.Input → Type 0
+IsServersOwn (inputs.Arrives message) = ⊥
+IsServersOwn inputs.Crash = ⊥
+IsServersOwn inputs.Restart = ⊥
+IsServersOwn _ = ⊤
 
-abbrev pub IsOwnOfClient : agents.Input → Type 0
-IsOwnOfClient (agents.Arrives from response) = ⊥
-IsOwnOfClient agents.Crash = ⊥
-IsOwnOfClient agents.Restart = ⊥
-IsOwnOfClient _ = ⊤
+abbrev pub IsClientsOwn : agents.Input → Type 0
+IsClientsOwn (agents.Arrives from response) = ⊥
+IsClientsOwn agents.Crash = ⊥
+IsClientsOwn agents.Restart = ⊥
+IsClientsOwn _ = ⊤
 
 -- this server is the receiver
 abbrev pub IsFor : ℕ → ServiceMessage → Type 0
@@ -77,77 +77,82 @@ IsFor i (ToServer client server request) = server ≡ i
 IsFor i (ToClient server client response) = ⊥
 
 -- what the item proposes, if it does, is a command within the limits
-abbrev pub Fits : ℕ → ℕ → Server → inputs.Input → Type 0
-Fits n i s input = LogEventFits (event_at i (log_request (servers.decides n i s input)))
+abbrev pub ProposalFits : ℕ → ℕ → Server → inputs.Input → Type 0
+ProposalFits n i s input = LogEventFits (event_at i (log_request (servers.decides n i s input)))
 
 -- what an actor of a group of n makes of an item that may come to it, where these messages left
-pub data Takes (n : ℕ) (left : List GroupMessage) :
-    Who → Actor → Item → Actor → List GroupMessage → Type 0 where
+pub data GroupTakes (n : ℕ) (left : List GroupMessage) :
+    Who → GroupActor → Item → GroupActor → List GroupMessage → Type 0 where
   log_comes : (i : ℕ) (s : Server) (message : Message Command) (turn : servers.ServerTurn) →
-      IsAmong left (OfLog message) → message.to ≡ i →
+      OccursIn left (OfLog message) → message.to ≡ i →
       servers.takes_log_message n i s message ≡ Ok turn →
-      Takes n left (ServerOf i) (IsServer s) (Comes (OfLog message))
-      (IsServer turn.server) turn.sent
+      GroupTakes n left (ServerOf i) (GroupServer s) (Comes (OfLog message))
+      (GroupServer turn.server) turn.sent
   server_comes : (i : ℕ) (s : Server) (message : ServiceMessage) (turn : servers.ServerTurn) →
-      IsAmong left (Service message) → IsFor i message →
-      Fits n i s (inputs.Arrives message) →
+      OccursIn left (Service message) → IsFor i message →
+      ProposalFits n i s (inputs.Arrives message) →
       servers.step n i s (inputs.Arrives message) ≡ Ok turn →
-      Takes n left (ServerOf i) (IsServer s) (Comes (Service message))
-      (IsServer turn.server) turn.sent
+      GroupTakes n left (ServerOf i) (GroupServer s) (Comes (Service message))
+      (GroupServer turn.server) turn.sent
   client_comes : (c : ℕ) (x : Agent) (server : ℕ) (response : ClientResponse)
       (turn : agents.AgentTurn) →
-      IsAmong left (Service (ToClient server c response)) →
+      OccursIn left (Service (ToClient server c response)) →
       agents.step n x (agents.Arrives server response) ≡ Ok turn →
-      Takes n left (ClientOf c) (IsClient x) (Comes (Service (ToClient server c response)))
-      (IsClient turn.client) (map Service turn.sent)
+      GroupTakes n left (ClientOf c) (GroupClient x) (Comes (Service (ToClient server c response)))
+      (GroupClient turn.client) (map Service turn.sent)
   server_own : (i : ℕ) (s : Server) (input : inputs.Input) (turn : servers.ServerTurn) →
-      IsOwn input → Fits n i s input →
+      IsServersOwn input → ProposalFits n i s input →
       servers.step n i s input ≡ Ok turn →
-      Takes n left (ServerOf i) (IsServer s) (ServerInput input)
-      (IsServer turn.server) turn.sent
+      GroupTakes n left (ServerOf i) (GroupServer s) (ServerInput input)
+      (GroupServer turn.server) turn.sent
   client_own : (c : ℕ) (x : Agent) (input : agents.Input) (turn : agents.AgentTurn) →
-      IsOwnOfClient input →
+      IsClientsOwn input →
       agents.step n x input ≡ Ok turn →
-      Takes n left (ClientOf c) (IsClient x) (ClientInput input)
-      (IsClient turn.client) (map Service turn.sent)
+      GroupTakes n left (ClientOf c) (GroupClient x) (ClientInput input)
+      (GroupClient turn.client) (map Service turn.sent)
 
 -- n servers and these nodes' clients
-abbrev pub stored_first : List NodeSpec → Who → Stored
-stored_first nodes (ServerOf i) = OfServer new_part
+abbrev pub stored_first : List NodeSpec → Who → GroupStore
+stored_first nodes (ServerOf i) = OfServer nothing_persistent
 stored_first nodes (ClientOf c) = stored_at_first (client_at (agents_from 1 nodes) c)
 
 abbrev pub IsThere : ℕ → List NodeSpec → Who → Type 0
 IsThere n nodes (ServerOf i) = i < n
 IsThere n nodes (ClientOf c) = (x : Agent) × (client_at (agents_from 1 nodes) c ≡ Some x)
 
-abbrev pub group_actors : ℕ → List NodeSpec → Actors Who Actor Stored Item GroupMessage
+abbrev pub group_actors : ℕ → List NodeSpec → Actors Who GroupActor GroupStore Item GroupMessage
 group_actors n nodes = record {
-  stored = stored_of;
-  restarted = started_by;
+  stored = store_of;
+  restarted = begun_by;
   initial = stored_first nodes;
   IsOne = IsThere n nodes;
-  Takes = Takes n;
+  Takes = GroupTakes n;
 }
 
 -- ---- the world
 
-abbrev pub server_of : Option Server → Option Actor
-server_of None = None
-server_of (Some s) = Some (IsServer s)
+abbrev pub as_server : Option Server → Option GroupActor
+as_server None = None
+as_server (Some s) = Some (GroupServer s)
 
-abbrev pub client_of : Option Agent → Option Actor
-client_of None = None
-client_of (Some x) = Some (IsClient x)
+abbrev pub as_client : Option Agent → Option GroupActor
+as_client None = None
+as_client (Some x) = Some (GroupClient x)
 
-abbrev pub actor_of : World → Who → Option Actor
-actor_of w (ServerOf i) = server_of (slice_get w.servers i)
-actor_of w (ClientOf c) = client_of (client_at w.clients c)
+abbrev pub actor_named : World → Who → Option GroupActor
+actor_named w (ServerOf i) = as_server (slice_get w.servers i)
+actor_named w (ClientOf c) = as_client (client_at w.clients c)
 
 abbrev pub sent_of : World → List GroupMessage
 sent_of w = w.sent
 
-abbrev pub Reaches : ℕ → List NodeSpec → List Event → List World → World → Type 0
-Reaches n nodes events past w = Run n nodes events past w × (length w.servers ≡ n)
+abbrev pub GroupReaches : ℕ → List NodeSpec → List Event → List World → World → Type 0
+GroupReaches n nodes events past w = Run n nodes events past w × (length w.servers ≡ n)
 
-abbrev pub group_abstraction : ℕ → List NodeSpec → Abstraction Who Actor GroupMessage Event World
-group_abstraction n nodes = record { Reach = Reaches n nodes; actor = actor_of; sent = sent_of }
+abbrev pub group_abstraction : ℕ → List NodeSpec →
+    Abstraction Who GroupActor GroupMessage Event World
+group_abstraction n nodes = record {
+  Reach = GroupReaches n nodes;
+  actor = actor_named;
+  sent = sent_of;
+}

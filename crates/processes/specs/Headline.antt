@@ -14,12 +14,12 @@ use Rattle.group_model.specs.Agents.{Agent}
 use Rattle.group_safety.specs.Claims.{SafeStates}
 use Rattle.group_model.specs.Messages.{GroupMessage}
 use Rattle.processes.specs.Processes.{Process, System, Execution}
-use Rattle.processes.specs.Loops.{Act, Each, ExecutionTo}
-use Rattle.processes.specs.Groups.{Who, ServerOf, ClientOf, Actor, IsServer, IsClient}
+use Rattle.processes.specs.Loops.{Move, Each, ExecutionTo}
+use Rattle.processes.specs.Groups.{Who, ServerOf, ClientOf, GroupActor, GroupServer, GroupClient}
 use Rattle.processes.specs.Groups.{Item, group_actors}
 
 -- the plan that is this entry of the list places this id on node c
-pub record IsPlaced (list : List (Entry Command)) (c : ℕ) (id : AllocId) : Type 0 where
+pub record PlacedInList (list : List (Entry Command)) (c : ℕ) (id : AllocId) : Type 0 where
   pub entry : Entry Command
   pub plan : AcceptedPlan
   pub place : AcceptedPlace
@@ -31,15 +31,15 @@ pub record IsPlaced (list : List (Entry Command)) (c : ℕ) (id : AllocId) : Typ
 
 module _ (n : ℕ) (nodes : List NodeSpec) (g : System (group_actors n nodes)) where
   abbrev pub ServerTold : ℕ → ℕ → Server → Type 0
-  ServerTold k i s = slice_get g.told k ≡ Some (record { who = ServerOf i; actor = IsServer s })
+  ServerTold k i s = slice_get g.told k ≡ Some (record { who = ServerOf i; actor = GroupServer s })
 
   abbrev pub ClientTold : ℕ → ℕ → Agent → Type 0
-  ClientTold k c x = slice_get g.told k ≡ Some (record { who = ClientOf c; actor = IsClient x })
+  ClientTold k c x = slice_get g.told k ≡ Some (record { who = ClientOf c; actor = GroupClient x })
 
   -- There is one list of which each server that was told has applied a first part; the state after
   -- each first part of it is safe; no two tell that they lead one term; and each id that a client
   -- ever started is placed on its node by the list.
-  pub record Keeps : Type 0 where
+  pub record KeepsPromises : Type 0 where
     pub list : List (Entry Command)
     pub agrees : (k i : ℕ) (s : Server) → ServerTold k i s → Agree s.raft.commit s.raft.log list
     pub safe : SafeStates list
@@ -47,7 +47,7 @@ module _ (n : ℕ) (nodes : List NodeSpec) (g : System (group_actors n nodes)) w
         is_leader s.raft.mode ≡ true → is_leader t.raft.mode ≡ true →
         s.raft.term ≡ t.raft.term → i ≡ j
     pub placed : (k c j : ℕ) (x : Agent) (id : AllocId) → ClientTold k c x →
-        slice_get x.started j ≡ Some id → IsPlaced list c id
+        slice_get x.started j ≡ Some id → PlacedInList list c id
 
 -- of each execution of n servers and these nodes' clients
 abbrev pub EachExecution : ((n : ℕ) (nodes : List NodeSpec) →
@@ -56,19 +56,19 @@ EachExecution Claim = (n : ℕ) (nodes : List NodeSpec)
     (past : List (System (group_actors n nodes))) (g : System (group_actors n nodes)) →
     Execution (group_actors n nodes) past g → Claim n nodes past g
 
--- the acts of processes of the group, in one order
-abbrev pub Acts : Type 0
-Acts = List (Who × Act Actor Item GroupMessage)
+-- the moves of processes of the group, in one order
+abbrev pub GroupMoves : Type 0
+GroupMoves = List (Who × Move GroupActor Item GroupMessage)
 
 -- of whatever each process did alone, in each order in which all of it may happen
 abbrev pub EachInterleaving : ((n : ℕ) (nodes : List NodeSpec) →
-    Acts → (Who → Process (group_actors n nodes)) → Type 0) → Type 0
-EachInterleaving Claim = (n : ℕ) (nodes : List NodeSpec) (acts : Acts)
+    GroupMoves → (Who → Process (group_actors n nodes)) → Type 0) → Type 0
+EachInterleaving Claim = (n : ℕ) (nodes : List NodeSpec) (moves : GroupMoves)
     (process : Who → Process (group_actors n nodes)) →
-    Each (group_actors n nodes) acts process → Claim n nodes acts process
+    Each (group_actors n nodes) moves process → Claim n nodes moves process
 
 -- there is an execution that came to them, and it keeps what is promised
 abbrev pub KeepsHeadline : (n : ℕ) (nodes : List NodeSpec) →
-    Acts → (Who → Process (group_actors n nodes)) → Type 0
-KeepsHeadline n nodes acts process =
-    (e : ExecutionTo (group_actors n nodes) acts process) × Keeps n nodes e.last
+    GroupMoves → (Who → Process (group_actors n nodes)) → Type 0
+KeepsHeadline n nodes moves process =
+    (e : ExecutionTo (group_actors n nodes) moves process) × KeepsPromises n nodes e.last

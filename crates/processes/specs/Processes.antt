@@ -19,38 +19,38 @@ module _ {K A P I M : Type 0} (actors : Actors K A P I M) where
   -- What a process is doing: nothing yet; nothing any more; or it runs. Then it has its actor, all
   -- that the actor was since it last stored (once for each item that it took), what these items
   -- send, and what earlier items send and has not left.
-  pub data Life : Type 0 where
-    NotStarted : Life
-    Killed : Life
-    Running : (actor : A) (unsaved : List A) (held ready : List M) → Life
+  pub data ProcessLife : Type 0 where
+    NotStarted : ProcessLife
+    Killed : ProcessLife
+    Up : (actor : A) (unsaved : List A) (held ready : List M) → ProcessLife
 
   -- what its store stands for outlasts it
   pub record Process : Type 0 where
     pub store : P
-    pub life : Life
+    pub life : ProcessLife
 
-  abbrev pub running : P → A → List A → List M → List M → Process
-  running store a unsaved held ready =
-      record { store = store; life = Running a unsaved held ready }
+  abbrev pub up_with : P → A → List A → List M → List M → Process
+  up_with store a unsaved held ready =
+      record { store = store; life = Up a unsaved held ready }
 
-  abbrev pub IsIdle : Life → Type 0
-  IsIdle NotStarted = ⊤
-  IsIdle Killed = ⊤
-  IsIdle (Running actor unsaved held ready) = ⊥
+  abbrev pub IsNotUp : ProcessLife → Type 0
+  IsNotUp NotStarted = ⊤
+  IsNotUp Killed = ⊤
+  IsNotUp (Up actor unsaved held ready) = ⊥
 
   -- what a process may have told of itself: its actor was this
-  pub record Told : Type 0 where
+  pub record ToldActor : Type 0 where
     pub who : K
     pub actor : A
 
-  abbrev pub told_by : K → A → Told
+  abbrev pub told_by : K → A → ToldActor
   told_by k a = record { who = k; actor = a }
 
   -- the processes, all messages that ever left one, and all that any may have told
   pub record System : Type 0 where
     pub process : K → Process
     pub left : List M
-    pub told : List Told
+    pub told : List ToldActor
 
   -- before anything happens
   abbrev pub new_system : System
@@ -62,54 +62,54 @@ module _ {K A P I M : Type 0} (actors : Actors K A P I M) where
 
   -- the process of this name is this one from now on, this has left and was told, and the others
   -- are as they were
-  pub record Becomes (g : System) (k : K) (store : P) (life : Life)
-      (left : List M) (told : List Told) (next : System) : Type 0 where
+  pub record Becomes (g : System) (k : K) (store : P) (life : ProcessLife)
+      (left : List M) (told : List ToldActor) (next : System) : Type 0 where
     pub here : next.process k ≡ record { store = store; life = life }
     pub others : (j : K) → j ≢ k → next.process j ≡ g.process j
     pub left_is : next.left ≡ left
     pub told_is : next.told ≡ told
 
   -- What may happen, and what it leads to. An item that is refused changes nothing.
-  pub data Steps (g : System) : System → Type 0 where
+  pub data SystemStep (g : System) : System → Type 0 where
     -- the process comes up with what its store stands for
-    starts : (k : K) (store : P) (life : Life) (next : System) →
+    comes_up : (k : K) (store : P) (life : ProcessLife) (next : System) →
         actors.IsOne k →
-        g.process k ≡ record { store = store; life = life } → IsIdle life →
-        Becomes g k store (Running (actors.restarted store) [] [] [])
+        g.process k ≡ record { store = store; life = life } → IsNotUp life →
+        Becomes g k store (Up (actors.restarted store) [] [] [])
         g.left (g.told ++ told_by k (actors.restarted store) ∷ []) next →
-        Steps g next
+        SystemStep g next
     -- it takes an item, and nothing of it is stored yet
-    takes : (k : K) (store : P) (a b : A) (unsaved : List A) (held ready : List M)
+    takes_item : (k : K) (store : P) (a b : A) (unsaved : List A) (held ready : List M)
         (input : I) (out : List M) (next : System) →
-        g.process k ≡ running store a unsaved held ready →
+        g.process k ≡ up_with store a unsaved held ready →
         actors.Takes g.left k a input b out →
-        Becomes g k store (Running b (unsaved ++ b ∷ []) (held ++ out) ready)
+        Becomes g k store (Up b (unsaved ++ b ∷ []) (held ++ out) ready)
         g.left g.told next →
-        Steps g next
+        SystemStep g next
     -- what it took is stored, whatever else happened since it was taken
     saves : (k : K) (store : P) (a : A) (unsaved : List A) (held ready : List M)
         (next : System) →
-        g.process k ≡ running store a unsaved held ready →
-        Becomes g k (actors.stored a) (Running a [] [] (ready ++ held))
+        g.process k ≡ up_with store a unsaved held ready →
+        Becomes g k (actors.stored a) (Up a [] [] (ready ++ held))
         g.left (g.told ++ map (told_by k) unsaved) next →
-        Steps g next
+        SystemStep g next
     -- the first message that may leave it leaves
-    sends : (k : K) (store : P) (a : A) (unsaved : List A) (held ready : List M)
+    message_leaves : (k : K) (store : P) (a : A) (unsaved : List A) (held ready : List M)
         (message : M) (next : System) →
-        g.process k ≡ running store a unsaved held (message ∷ ready) →
-        Becomes g k store (Running a unsaved held ready)
+        g.process k ≡ up_with store a unsaved held (message ∷ ready) →
+        Becomes g k store (Up a unsaved held ready)
         (g.left ++ message ∷ []) g.told next →
-        Steps g next
+        SystemStep g next
     -- It ends, or is killed: what it took and did not store is lost, and what had not left never
     -- leaves.
     dies : (k : K) (store : P) (a : A) (unsaved : List A) (held ready : List M)
         (next : System) →
-        g.process k ≡ running store a unsaved held ready →
+        g.process k ≡ up_with store a unsaved held ready →
         Becomes g k store Killed g.left g.told next →
-        Steps g next
+        SystemStep g next
 
   -- an execution: the systems before the last one, and the last one
   pub data Execution : List System → System → Type 0 where
     begun : Execution [] new_system
-    gone : {past : List System} {g : System} (next : System) →
-        Execution past g → Steps g next → Execution (past ++ g ∷ []) next
+    continued : {past : List System} {g : System} (next : System) →
+        Execution past g → SystemStep g next → Execution (past ++ g ∷ []) next

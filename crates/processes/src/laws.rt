@@ -3,7 +3,8 @@
 ghost use Rattle.processes.specs.Batches.{EachBatchMayHappen};
 ghost use Rattle.processes.specs.Claims.{RefinesWorld};
 ghost use Rattle.processes.specs.Groups.{group_abstraction, group_actors, stopped_by};
-ghost use Rattle.processes.specs.Headline.{EachExecution, EachInterleaving, Keeps, KeepsHeadline};
+ghost use Rattle.processes.specs.Headline.{EachExecution, EachInterleaving, KeepsHeadline};
+ghost use Rattle.processes.specs.Headline.{KeepsPromises};
 ghost use Rattle.processes.specs.Logs.{EachLogExecution, KeepsOneList, log_abstraction};
 ghost use Rattle.processes.specs.Logs.{log_actors, stopped};
 ghost use Rattle.processes.specs.Loops.{ExecutionTo};
@@ -31,7 +32,7 @@ pub fn processes_refine_the_group()
 
 /// What processes may have told keeps what is promised of the group.
 pub fn processes_keep_the_headline()
-    ensures { EachExecution (λ n nodes past g. Keeps n nodes g) }
+    ensures { EachExecution (λ n nodes past g. KeepsPromises n nodes g) }
 {}
 
 /// A batch of items is taken as a whole, cut or dropped: each is an execution.
@@ -42,8 +43,8 @@ pub fn a_batch_may_happen()
 /// Where each process does alone what it may, and takes only messages that had left, then in
 /// whatever order all of it happens that is an execution.
 pub fn interleavings_are_executions()
-    ensures { EachInterleaving (λ n nodes acts process.
-        ExecutionTo (group_actors n nodes) acts process) }
+    ensures { EachInterleaving (λ n nodes moves process.
+        ExecutionTo (group_actors n nodes) moves process) }
 {}
 
 /// So what is promised of the group holds of whatever such processes may have told.

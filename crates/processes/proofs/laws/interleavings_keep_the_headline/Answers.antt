@@ -4,4 +4,4 @@ use Rattle.processes.proofs.Headline.{keeps}
 use Rattle.processes.proofs.laws.interleavings_keep_the_headline.Goals as goal
 
 pub returns : goal.returns
-returns g = λ n nodes acts process each. let c = execution_to (group_actors n nodes) acts process each in (c, keeps n nodes c.past c.last c.execution)
+returns g = λ n nodes moves process each. let c = execution_to (group_actors n nodes) moves process each in (c, keeps n nodes c.past c.last c.execution)

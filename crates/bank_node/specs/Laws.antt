@@ -1,0 +1,2 @@
+-- What impls of this crate cite.
+pub mod Outputs

@@ -1,0 +1,10 @@
+pub mod Batching
+pub mod Histories
+pub mod Scanning
+pub mod RecordSteps
+pub mod RecordLaws
+pub mod Reading
+pub mod Leaving
+pub mod Crashing
+pub mod Progress
+pub mod Fronts

@@ -1,0 +1,12 @@
+pub mod Records
+pub mod Journals
+pub mod Tails
+pub mod Events
+pub mod Histories
+pub mod Replays
+pub mod Savings
+pub mod Batches
+pub mod Items
+pub mod Serving
+pub mod Crashes
+pub mod Inner

@@ -1,0 +1,18 @@
+-- The whole records of a journal, and what stands behind them.
+use Rattle.std.specs.Prelude.{◌≡◌, ◌<◌, ◌≤◌, ◌^◌, ℕ, List, [], ◌++◌, length, drop}
+use Rattle.std.specs.List.{flat_map, AllByRecursion}
+use Rattle.fields_model.specs.Format.{spelled}
+use Rattle.journal.specs.Records.{wal_record}
+
+-- whole records stand up to this offset
+pub record AreWhole (bytes : List ℕ) (at : ℕ) : Type 0 where
+  pub payloads : List (List ℕ)
+  pub fits : AllByRecursion wal_record.Fits payloads
+  pub is : bytes ≡ flat_map wal_record.text payloads ++ drop at bytes
+
+-- A tail that a crash may leave: fewer bytes than a record has in front of its payload, or these,
+-- and no more bytes than its length says. Any other tail is a record that was damaged, with bytes
+-- behind it, and is refused.
+pub data MayBeTorn (tail : List ℕ) : Type 0 where
+  short : length tail < 12 → MayBeTorn tail
+  cut : (sum : List ℕ) (size : ℕ) (rest : List ℕ) → length sum ≡ 8 → size < 2 ^ 32 → tail ≡ sum ++ (spelled 4 size ++ rest) → length rest ≤ size → MayBeTorn tail
