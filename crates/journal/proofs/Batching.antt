@@ -28,9 +28,6 @@ module _ {V P : Type 0} (k : Replay P) (part : V → P) (Turn : List ℕ → V �
   one_turn (first ∷ items) item old mid new outs more turns turn =
       (turns.0, turns.1, turns.2 ++ more, ap (λ l. l ++ more) turns.3 ∙ append_assoc turns.1 turns.2 more, turns.4, one_turn items item turns.0 mid new turns.2 more turns.5 turn)
 
-  pub none_taken : (bytes : List ℕ) (old : V) → TakenUpTo k part Turn bytes 0 old old []
-  none_taken bytes old = record { items = []; within = omega arith; front = refl; turns = (refl, refl); only = tt }
-
   pub one_taken : (bytes : List ℕ) (at next : ℕ) (item : List ℕ) (old mid new : V) (outs more all : List IoEvent) → TakenUpTo k part Turn bytes at old mid outs
       → ItemStarts (drop at bytes) item (drop next bytes) → at < next → next ≤ length bytes → Turn item mid new more → AreOutputs more → all ≡ outs ++ more
       → TakenUpTo k part Turn bytes next old new all

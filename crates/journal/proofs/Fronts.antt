@@ -21,10 +21,6 @@ none_case : (rest : List ℕ) → length rest < 4 → NoItem rest
 none_case [] few = no_bytes refl
 none_case (x ∷ rest) few = part (of_length (λ none. absurd cc) few)
 
--- fewer bytes than a length has
-pub few_left : (bytes : List ℕ) (at : ℕ) → at ≤ length bytes → length bytes < at + 4 → NoItem (drop at bytes)
-few_left bytes at within few = none_case (drop at bytes) (omega (arith, within, few, length-drop at bytes))
-
 pub no_length : (bytes : List ℕ) (at : ℕ) → at ≤ length bytes → length bytes < at + 4 → (size : ℕ) → IsTooLong (drop at bytes) size → ⊥
 no_length bytes at within few size found =
     let all = ap length found.is ∙ length-append (spelled 4 size) found.behind in

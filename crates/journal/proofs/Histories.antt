@@ -15,9 +15,6 @@ goes_on_more (Some x) None c xs ys first second = absurd first
 goes_on_more (Some x) (Some y) None xs ys first second = absurd second
 goes_on_more (Some x) (Some y) (Some z) xs ys first second = second ∙ ap (λ l. l ++ ys) first ∙ append_assoc x xs ys
 
-pub may_nil : (a : Option (List IoEvent)) (event : IoEvent) → MayGoOnBy a a event
-may_nil a event = inl (goes_on_nil a)
-
 pub begins_none : (a b : Option (List IoEvent)) (events : List IoEvent) → GoesOnBy a b [] → GoesOnByFirst a b events
 begins_none a b events none = record { first = []; others = events; all = refl; happened = none }
 
@@ -50,18 +47,10 @@ module _ {X : Type 0} (event : X → IoEvent) where
   split_at (y ∷ ys) (suc i) x at = ap (λ l. event y ∷ l) (split_at ys i x at)
 
   module _ (xs : List X) (i : ℕ) (x : X) (a b c : Option (List IoEvent)) (at : slice_get xs i ≡ Some x) (before : GoesOnBy a b (map event (take i xs))) where
-    pub done_more : GoesOnBy b c (event x ∷ []) → GoesOnBy a c (map event (take (i + 1) xs))
-    done_more one =
-        let next : suc i ≡ i + 1 = omega arith in
-        subst (λ k. GoesOnBy a c (map event (take k xs))) next (subst (GoesOnBy a c) (sym (next_of xs i x at)) (goes_on_more a b c (map event (take i xs)) (event x ∷ []) before one))
-
     pub done_part : MayGoOnBy b c (event x) → GoesOnByFirst a c (map event xs)
     done_part one =
         let behind = map event (drop (suc i) xs) in
         subst (GoesOnByFirst a c) (sym (split_at xs i x at)) (begins_more a b c (map event (take i xs)) (event x ∷ behind) before (may_begin b c (event x) behind one))
-
-  pub done_all : (xs : List X) (i : ℕ) (a b : Option (List IoEvent)) → length xs ≤ i → GoesOnBy a b (map event (take i xs)) → GoesOnBy a b (map event xs)
-  done_all xs i a b all done = subst (λ l. GoesOnBy a b (map event l)) (take_all i xs all) done
 
 -- ---- results
 
@@ -69,10 +58,6 @@ module _ {X : Type 0} (event : X → IoEvent) where
 pub err_any : {T E : Type 0} (r : Result T E) {P : Type 0} → P → OnErr r P
 err_any (Ok x) p = tt
 err_any (Err e) p = p
-
-pub err_so : {T E : Type 0} (r : Result T E) {P Q : Type 0} → (P → Q) → OnErr r P → OnErr r Q
-err_so (Ok x) so p = tt
-err_so (Err e) so p = so p
 
 at_index : {X : Type 0} (xs : List X) (i : ℕ) (x : X) → i < length xs → x ≡ get_or xs i x → slice_get xs i ≡ Some x
 at_index [] i x lt is = absurd (omega (arith, lt))

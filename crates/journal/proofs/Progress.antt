@@ -61,9 +61,6 @@ module _ {V P : Type 0} (k : Replay P) (stored : V → P) (Turn : List ℕ → V
         let happened = subst (GoesOnBy did next) (append-nil so.events) (goes_on_more did does next so.events [] so.happened none) in
         part_way pending now so.events so.runs (begins_longer did next so.events (InputEnded ∷ []) (begins_all did next so.events happened))
 
-    pub stops_now : ProcessStops k stored Turn old did does
-    stops_now = stops_here does (goes_on_nil does)
-
     pub stops_reading : (next : Option (List IoEvent)) → MayReceive does next → ProcessStops k stored Turn old did next
     stops_reading next (inl none) = stops_here next none
     stops_reading next (inr (bytes, one)) =
@@ -84,13 +81,6 @@ module _ {V P : Type 0} (k : Replay P) (stored : V → P) (Turn : List ℕ → V
 
     pub cut_at : (next : Option (List IoEvent)) → GoesOnBy does next (InputEnded ∷ []) → IsPartOfItem pending → ProcessRunsTo k stored Turn old now did next (InputEnded ∷ []) IsPartOfItem
     cut_at next one part = record { left = pending; events = so.events; runs = so.runs; happened = goes_on_more did does next so.events (InputEnded ∷ []) so.happened one; such = part }
-
-    pub came_to_end : (next : Option (List IoEvent)) → GoesOnBy does next (InputEnded ∷ []) → pending ≡ [] → ProcessRunsToEnd k stored Turn old now did next
-    came_to_end next one none = record {
-      events = so.events;
-      runs = subst (λ l. ProcessRuns k stored Turn old l now so.events) none so.runs;
-      happened = goes_on_more did does next so.events (InputEnded ∷ []) so.happened one;
-    }
 
 pub is_part : (bytes : List ℕ) → IsRest bytes → (bytes ≡ [] → ⊥) → IsPartOfItem bytes
 is_part bytes (empty none) some = absurd (some none)

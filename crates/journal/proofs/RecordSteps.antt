@@ -27,9 +27,6 @@ pub no_sum : (bytes : List ℕ) (at place : ℕ) → number_at 8 0 (2 ^ 64) byte
 no_sum bytes at place e = (place, rw e refl)
 
 module _ (bytes : List ℕ) (at sum next : ℕ) (first : number_at 8 0 (2 ^ 64) bytes at ≡ Ok (sum, next)) where
-  pub no_size : (place : ℕ) → number_at 4 0 (2 ^ 32) bytes next ≡ Err place → (x : ℕ) × (wal_record.read bytes at ≡ Err x)
-  no_size place e = (place, rw (first, string_none bytes next place e) refl)
-
   pub no_bytes : (size start : ℕ) → number_at 4 0 (2 ^ 32) bytes next ≡ Ok (size, start) → length bytes < start + size → (x : ℕ) × (wal_record.read bytes at ≡ Err x)
   no_bytes size start e short = (next, rw (first, string_short bytes next size start e short) refl)
 

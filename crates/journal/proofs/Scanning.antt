@@ -1,4 +1,4 @@
--- Whole records, one more at a time; and the tails that a crash leaves.
+-- Where the next record begins, and the tails that a crash leaves.
 use Rattle.std.proofs.Common.{◌≡◌, ◌∙◌, inl, inr, ℕ, ◌+◌, ◌-◌, ◌^◌, Bool, true, false, leb, MatchBool, ◌<◌, ◌≤◌, List, [], ◌∷◌, ◌++◌, Ok, Err, length, take, drop, ap, sym, refl, arith, append_assoc, length-append, length-drop, length-take-le}
 use Rattle.std.specs.List.{flat_map, AllByRecursion}
 use Rattle.std.proofs.lemmas.List.{append-nil, take_at, take-append-drop, take-append-le, append_cancel_left, drop-drop}
@@ -12,15 +12,8 @@ use Rattle.fields_model.proofs.FieldLaws.{u32_lawful}
 use Rattle.fields_model.proofs.WholeTexts.{no_text_begins_another}
 use Rattle.journal.specs.Records.{checksum, wal_record}
 use Rattle.journal.specs.Journals.{IsJournal}
-use Rattle.journal.specs.Tails.{AreWholeRecords, MayBeTorn, short, cut}
+use Rattle.journal.specs.Tails.{MayBeTorn, short, cut}
 use Rattle.journal.proofs.RecordLaws.{record_lawful, record_filled}
-
-all_push : {A : Type 0} (P : A → Type 0) (xs : List A) (x : A) → AllByRecursion P xs → P x → AllByRecursion P (xs ++ x ∷ [])
-all_push P [] x all p = (p, tt)
-all_push P (y ∷ xs) x all p = (all.0, all_push P xs x all.1 p)
-
-pub none_whole : (bytes : List ℕ) → AreWholeRecords bytes 0
-none_whole bytes = record { payloads = []; fits = tt; is = refl }
 
 length_some : (xs : List ℕ) → (xs ≡ [] → ⊥) → 0 < length xs
 length_some [] some = absurd (some refl)
@@ -28,34 +21,12 @@ length_some (x ∷ xs) some = omega arith
 
 module _ (bytes : List ℕ) (fits : IsBytes bytes) (at : ℕ) where
   module _ (payload : List ℕ) (next : ℕ) (read : wal_record.read bytes at ≡ Ok (payload, next)) where
-    pub one_whole : AreWholeRecords bytes at → AreWholeRecords bytes next
-    one_whole so =
-        let s = record_lawful.found bytes at payload next fits read in
-        let front = flat_map wal_record.text so.payloads in
-        let joined : flat_map wal_record.text (so.payloads ++ payload ∷ []) ≡ front ++ wal_record.text payload =
-        flat_map-append wal_record.text so.payloads (payload ∷ []) ∙ ap (λ l. front ++ l) (append-nil (wal_record.text payload)) in
-        record {
-          payloads = so.payloads ++ payload ∷ [];
-          fits = all_push wal_record.Fits so.payloads payload so.fits s.fits;
-          is = so.is ∙ ap (λ l. front ++ l) s.here ∙ sym (append_assoc front (wal_record.text payload) (drop next bytes)) ∙ ap (λ l. l ++ drop next bytes) (sym joined);
-        }
-
     pub one_further : at ≤ length bytes → (at < next) × (next ≤ length bytes)
     one_further le =
         let s = record_lawful.found bytes at payload next fits read in
         let some = length_some (wal_record.text payload) (record_filled payload s.fits) in
         let long = ap length s.here ∙ length-append (wal_record.text payload) (drop next bytes) in
         (omega (arith, some, s.after), omega (arith, le, s.after, long, length-drop at bytes, length-drop next bytes))
-
-  pub ended : (place : ℕ) → wal_record.read bytes at ≡ Err place → AreWholeRecords bytes at → (payloads : List (List ℕ)) × IsJournal wal_record bytes payloads (drop at bytes)
-  ended place read so = (
-    so.payloads,
-    record {
-      fits = so.fits;
-      is = so.is;
-      ends = λ v rest fv here. let both = sym read ∙ record_lawful.only bytes at v rest fv here in absurd (cc both);
-    },
-  )
 
 -- each beginning of a record is a tail that a crash may leave
 pub beginnings_may_be_torn : (v front back : List ℕ) → wal_record.Fits v → wal_record.text v ≡ front ++ back → MayBeTorn front
@@ -104,6 +75,3 @@ module _ (bytes : List ℕ) (at size : ℕ) (head : List ℕ) (within : at + 12 
 
   pub torn_by : size < 2 ^ 32 → MatchBool (leb (length bytes - at - 12) size) (MayBeTorn (drop at bytes)) (MayBeTorn (drop at bytes) → ⊥)
   torn_by small = torn_case (leb (length bytes - at - 12) size) small refl
-
-pub few_torn : (bytes : List ℕ) (at : ℕ) → length bytes < at + 12 → at ≤ length bytes → MayBeTorn (drop at bytes)
-few_torn bytes at few within = short (omega (arith, few, within, length-drop at bytes))

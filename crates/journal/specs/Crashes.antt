@@ -28,8 +28,8 @@ module _ {V P : Type 0} (k : Replay P) (part : V → P) (Turn : List ℕ → V �
     pub leaves : StoreLeftBy before old (done ++ more)
 
 -- A crash where these events had happened, of all: between two of them, or while a record is put
--- behind the others. (While another journal takes the journal's place, there is the one or the
--- other.)
+-- behind the others. The file is what it leaves behind the journal's first line. (While another
+-- journal takes the journal's place, there is the one or the other.)
 pub data CrashLeaves (f : Format (List ℕ)) (before : List (List ℕ)) (all : List IoEvent) (done : List IoEvent) (file : List ℕ) : Type 0 where
   between : (others : List IoEvent) → all ≡ done ++ others
       → file ≡ flat_map f.text (records_after before done) → CrashLeaves f before all done file

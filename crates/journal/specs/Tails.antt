@@ -1,14 +1,8 @@
--- The whole records of a journal, and what stands behind them.
+-- What may stand behind the whole records of a journal.
 use Rattle.std.specs.Prelude.{◌≡◌, ◌<◌, ◌≤◌, ◌^◌, ℕ, List, ◌++◌, length, drop}
 use Rattle.std.specs.List.{flat_map, AllByRecursion}
 use Rattle.fields_model.specs.Format.{spelled}
 use Rattle.journal.specs.Records.{wal_record}
-
--- whole records stand up to this offset
-pub record AreWholeRecords (bytes : List ℕ) (at : ℕ) : Type 0 where
-  pub payloads : List (List ℕ)
-  pub fits : AllByRecursion wal_record.Fits payloads
-  pub is : bytes ≡ flat_map wal_record.text payloads ++ drop at bytes
 
 -- A tail that a crash may leave: fewer bytes than a record has in front of its payload, or these,
 -- and no more bytes than its length says. Any other tail is a record that was damaged, with bytes

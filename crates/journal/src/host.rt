@@ -69,16 +69,21 @@ fn locked(rt: &HostRuntime, name: &str) -> Result<File, OpenError> {
     }
 }
 
+/// Refuses what is there and is no regular file.
+fn refuse_others(rt: &HostRuntime, name: &str) -> Result<(), OpenError> {
+    match fs::metadata(rt, name) {
+        Ok(found) if found.is_file() => Ok(()),
+        Ok(_) => Err(OpenError::NotAFile),
+        Err(error) if error.kind() == ErrorKind::NotFound => Ok(()),
+        Err(error) => Err(unless_memory(&error, OpenError::Unread)),
+    }
+}
+
 /// What a file has; none where it is not there.
 fn contents(rt: &HostRuntime, name: &str) -> Result<Option<Vec<u8>>, OpenError> {
-    match fs::metadata(rt, name) {
-        Ok(found) if !found.is_file() => return Err(OpenError::NotAFile),
-        Ok(_) => {}
-        Err(error) if error.kind() == ErrorKind::NotFound => return Ok(None),
-        Err(error) => return Err(unless_memory(&error, OpenError::Unread)),
-    }
     match fs::read(rt, name) {
         Ok(bytes) => Ok(Some(bytes)),
+        Err(error) if error.kind() == ErrorKind::NotFound => Ok(None),
         Err(error) => Err(unless_memory(&error, OpenError::Unread)),
     }
 }
@@ -100,6 +105,7 @@ impl<'a> Host<'a> {
         name: &'a str,
         header: Vec<u8>,
     ) -> Result<(Host<'a>, Option<Vec<u8>>), OpenError> {
+        refuse_others(rt, name)?;
         let next = joined(rt, name, ".new")?;
         let lock_name = joined(rt, name, ".lock")?;
         let lock = locked(rt, lock_name.as_str())?;

@@ -19,7 +19,7 @@ pub use host::{Host, MAGIC, OpenError};
 pub use items::{MOST_BYTES, item_of};
 pub use laws::{any_crash_is_read, journals_are_read};
 pub use outside::Outside;
-pub use records::{may_be_torn, next_record, whole_records, write_record};
+pub use records::{may_be_torn, next_record, write_record};
 pub use serving::serve;
 pub use stop::Stop;
 pub use storing::{Out, Saving};

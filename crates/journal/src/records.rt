@@ -56,19 +56,6 @@ pub fn next_record(bytes: &[u8], at: usize) -> Option<(&[u8], usize)>
     Some((payload, start + payload.len()))
 }
 
-/// The offset behind the whole records that stand from the front of some bytes.
-pub fn whole_records(bytes: &[u8]) -> usize
-    ensures within { result ≤ length bytes.now }
-    ensures journal { (payloads : List (List ℕ)) ×
-        IsJournal wal_record bytes.now payloads (drop result bytes.now) }
-{
-    let mut at = 0;
-    'records: while let Some((_, next)) = next_record(bytes, at) {
-        at = next;
-    }
-    at
-}
-
 /// Whether what stands from an offset on is a tail that a crash may leave of a record that was being
 /// written: less than a record's head, or its head and no more bytes than its length says. Where it
 /// is none, a record there was damaged.
