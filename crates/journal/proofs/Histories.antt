@@ -1,7 +1,6 @@
 -- What was done, and more that is done.
-use Rattle.std.proofs.Common.{get_or, ◌<◌, Result, Ok, Err, OnErr, ◌≡◌, ◌∙◌, inl, inr, ℕ, zero, suc, ◌+◌, ◌≤◌, ◌++◌, ◌∷◌, [], List, Option, Some, None, length, take, drop, ap, sym, refl, subst, append_assoc, append-nil, arith, map}
+use Rattle.std.proofs.Common.{get_or, ◌<◌, Result, Ok, Err, OnErr, ◌≡◌, ◌∙◌, inl, inr, ℕ, zero, suc, ◌++◌, ◌∷◌, [], List, Option, Some, None, length, take, drop, ap, sym, refl, subst, append_assoc, append-nil, arith, map}
 use Rattle.std.specs.Prelude.{slice_get}
-use Rattle.std.proofs.lemmas.List.{take_all}
 use Rattle.journal.specs.Events.{IoEvent}
 use Rattle.journal.specs.Histories.{GoesOnBy, MayGoOnBy, GoesOnByFirst}
 

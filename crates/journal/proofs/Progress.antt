@@ -7,12 +7,12 @@ use Rattle.journal.specs.Histories.{GoesOnBy}
 use Rattle.journal.specs.Items.{IsTooLong, IsPartOfItem}
 use Rattle.journal.specs.Replays.{Replay}
 use Rattle.journal.specs.Batches.{IsDoneBatch}
-use Rattle.journal.specs.Serving.{took_none, more_came, took_batch, ProcessRuns, ProcessRunsToEnd, ProcessRunsTo, ProcessStops, at_once, part_way}
+use Rattle.journal.specs.Serving.{took_none, more_came, took_batch, ProcessRuns, ProcessRunsTo, ProcessStops, at_once, part_way}
 use Rattle.journal.specs.Inner.Rests.{IsRest, empty, cut}
 use Rattle.journal.specs.Inner.Taking.{TakesBatch, BatchStops, before, within}
 use Rattle.journal.specs.Inner.Starting.{StartStops, before as start_before, within as start_within, MayReceive}
 use Rattle.journal.specs.Inner.Coming.{CameTo}
-use Rattle.journal.proofs.Histories.{goes_on_nil, goes_on_more, begins_all, begins_more, begins_longer, may_begin}
+use Rattle.journal.proofs.Histories.{goes_on_more, begins_all, begins_more, begins_longer, may_begin}
 
 module _ {V P : Type 0} (k : Replay P) (stored : V → P) (Turn : List ℕ → V → V → List IoEvent → Type 0) where
   pub started : (old : V) (did does : Option (List IoEvent)) → ((payload : List ℕ) × (k.whole payload ≡ Some (stored old)) × GoesOnBy did does (JournalReplaced payload ∷ [])) → CameTo k stored Turn old [] old did does

@@ -1,8 +1,6 @@
 -- Where the next record begins, and the tails that a crash leaves.
-use Rattle.std.proofs.Common.{◌≡◌, ◌∙◌, inl, inr, ℕ, ◌+◌, ◌-◌, ◌^◌, Bool, true, false, leb, MatchBool, ◌<◌, ◌≤◌, List, [], ◌∷◌, ◌++◌, Ok, Err, length, take, drop, ap, sym, refl, arith, append_assoc, length-append, length-drop, length-take-le}
-use Rattle.std.specs.List.{flat_map, AllByRecursion}
-use Rattle.std.proofs.lemmas.List.{append-nil, take_at, take-append-drop, take-append-le, append_cancel_left, drop-drop}
-use Rattle.std.proofs.lemmas.Grind.{flat_map-append}
+use Rattle.std.proofs.Common.{◌≡◌, ◌∙◌, inl, inr, ℕ, ◌+◌, ◌-◌, ◌^◌, Bool, true, false, leb, MatchBool, ◌<◌, ◌≤◌, List, [], ◌∷◌, ◌++◌, Ok, length, take, drop, ap, sym, refl, arith, append_assoc, length-append, length-drop, length-take-le}
+use Rattle.std.proofs.lemmas.List.{take_at, take-append-drop, take-append-le, append_cancel_left, drop-drop}
 use Rattle.std.proofs.lemmas.Bool.{leb-true, leb-false}
 use Rattle.std.proofs.lemmas.Bool.Decides.{leb_tells}
 use Rattle.fields_model.specs.Format.{IsBytes, spelled}
@@ -11,7 +9,6 @@ use Rattle.fields_model.proofs.FormatLaws.{length-spelled}
 use Rattle.fields_model.proofs.FieldLaws.{u32_lawful}
 use Rattle.fields_model.proofs.WholeTexts.{no_text_begins_another}
 use Rattle.journal.specs.Records.{checksum, wal_record}
-use Rattle.journal.specs.Journals.{IsJournal}
 use Rattle.journal.specs.Tails.{MayBeTorn, short, cut}
 use Rattle.journal.proofs.RecordLaws.{record_lawful, record_filled}
 

@@ -1,8 +1,6 @@
 -- What may stand behind the whole records of a journal.
-use Rattle.std.specs.Prelude.{◌≡◌, ◌<◌, ◌≤◌, ◌^◌, ℕ, List, ◌++◌, length, drop}
-use Rattle.std.specs.List.{flat_map, AllByRecursion}
+use Rattle.std.specs.Prelude.{◌≡◌, ◌<◌, ◌≤◌, ◌^◌, ℕ, List, ◌++◌, length}
 use Rattle.fields_model.specs.Format.{spelled}
-use Rattle.journal.specs.Records.{wal_record}
 
 -- A tail that a crash may leave: fewer bytes than a record has in front of its payload, or these,
 -- and no more bytes than its length says. Any other tail is a record that was damaged, with bytes
