@@ -5,11 +5,13 @@ use Rattle.rows.specs.declared.actor.Actor.{Actor}
 use Rattle.world.specs.GroupView.{GroupView, nodes_of, renumbered}
 use Rattle.cells.specs.Cells.{CellView}
 use Rattle.cluster.specs.Closing.{ClosesTo}
-use Rattle.event_texts.specs.Transcripts.{IsTranscript, Recorded}
+use Rattle.event_texts.specs.Transcripts.{IsTranscript, Recorded, recorded}
+use Rattle.event_texts.specs.declared.transcript.Transcript.{Transcript}
 use Rattle.transcript.specs.Records.{record_of}
 use Rattle.runner.specs.Pages.{GrowsByPage}
 use Rattle.picture.specs.Pictures.{GrowsByPicture}
-use Rattle.inspection.specs.Told.{GrowsByEventLines, GrowsByLines}
+use Rattle.inspection.specs.Told.{GrowsByLines}
+use Rattle.telling.specs.Told.{GrowsByEventLines}
 pub use Rattle.command_line.specs.Words.{AskFor, AskForThreads, words_fault}
 use Rattle.command_line.specs.declared.command.CommandLine.{CommandLine}
 use Rattle.command_line.specs.declared.command.CommandLine.TheVariants.{Run, Threads, Replay, Draw, Check, Tell, Inspect, Expand, Sweep}
@@ -17,7 +19,6 @@ use Rattle.command_line.specs.declared.command.SweepWords.{SweepWords}
 use Rattle.scenario_file.specs.declared.scenario.Scenario.{Scenario}
 use Rattle.scenario_file.specs.declared.scenario.Settings.{Settings}
 use Rattle.scenario_file.specs.Complaints.{IsGood}
-use Rattle.scenario_file.specs.EachLine.{OfEachLine}
 use Rattle.scenario_file.specs.Objects.{IsScenarioText, step_lines}
 use Rattle.playing.specs.Played.{Refused}
 use Rattle.expansion.specs.Checked.{IsGoodShortText}
@@ -27,56 +28,56 @@ use Rattle.sweep.specs.Rows.{AreRows}
 use Rattle.sweep.specs.Summaries.{IsSummary}
 use Rattle.sweep.specs.Tables.{csv_text, summary_text}
 use Rattle.file_runs.specs.Notes.{TellsNotes}
-use Rattle.file_runs.specs.Refusals.{MayRefuse, TellsRun}
+use Rattle.file_runs.specs.Plays.{TellsPlay}
+use Rattle.file_runs.specs.Refusals.{TellsRun}
 use Rattle.file_runs.specs.Replays.{TellsReplay}
+use Rattle.runner.specs.Expansions.{IsExpansion}
 use Rattle.runner.specs.Faults.{AskForHelp}
+use Rattle.runner.specs.ThreadSteps.{LinesOnThreads}
 
 -- ---- scenarios
 
--- A scenario was played, each of whose lines is a step's: that of the file, where its bytes are
--- known. Told are the refusals of some of its lines, in order and each once at most, and the last
--- lines of a group of its size and nodes, of which the transcript is, where the bytes of that are
--- known.
-pub record TellsScenario (file written : Option (List ℕ)) (status : ℕ) (old new : Option (List ℕ)) : Type 0 where
+-- A scenario was played on threads, each of whose lines is a step's: that of the file, where its
+-- bytes are known. Each of its steps came to the cells of a group of its size and nodes. All that
+-- these noted, each event once, is what happened to the group to which they close. Told are the
+-- steps that were refused, and the last lines of that group; and of that the transcript is, where the
+-- bytes of that are known.
+pub record TellsThreads (file written : Option (List ℕ)) (status : ℕ) (old new : Option (List ℕ)) : Type 0 where
   pub scenario : Scenario
   pub read : IfSome file (λ text. IsScenarioText text scenario)
   pub good : IsGood scenario
+  pub all : List Actor
   pub refused : List Refused
-  pub of_lines : OfEachLine MayRefuse 1 (step_lines scenario) refused
+  pub played : LinesOnThreads scenario.settings.servers all (step_lines scenario) refused
+  pub cells : List CellView
   pub group : GroupView
+  pub closes : ClosesTo all cells group
   pub size : length group.servers ≡ scenario.settings.servers
   pub nodes : nodes_of group ≡ renumbered 1 scenario.nodes.items
   pub recorded : IfSome written (IsTranscript (record_of group))
   pub told : TellsRun refused group status old new
 
--- cells close to this group: all that they noted, each event once, is what happened to it
-abbrev pub IsOfCells : GroupView → Type 0
-IsOfCells group = (all : List Actor) × (cells : List CellView) × ClosesTo all cells group
-
--- the same on threads, where the group is one to which cells close
-abbrev pub TellsThreads : (file written : Option (List ℕ)) → ℕ → Option (List ℕ) → Option (List ℕ) → Type 0
-TellsThreads file written status old new =
-    (told : TellsScenario file written status old new) × IsOfCells told.group
-
 -- ---- transcripts
 
--- the output grows by a page of a run of so many servers, clients and events, or by a picture
-abbrev pub ShowsRun : Bool → ℕ → ℕ → ℕ → Option (List ℕ) → Option (List ℕ) → Type 0
-ShowsRun true servers clients events old new = GrowsByPage servers clients events old new
-ShowsRun false servers clients events old new = GrowsByPicture servers clients events old new
+-- the output grows by a page of a run of so many servers, clients and events, which has the name of the
+-- file at this path, or by a picture
+abbrev pub ShowsRun : Bool → List ℕ → ℕ → ℕ → ℕ → Option (List ℕ) → Option (List ℕ) → Type 0
+ShowsRun true path servers clients events old new = GrowsByPage path servers clients events old new
+ShowsRun false path servers clients events old new = GrowsByPicture servers clients events old new
 
--- a transcript was drawn, as a page or as a picture: that of the file, where its bytes are known
-pub record TellsPicture (file : Option (List ℕ)) (html : Bool) (status : ℕ) (old new : Option (List ℕ)) : Type 0 where
+-- a transcript was drawn, as a page or as a picture: that of the file at this path, where its bytes
+-- are known
+pub record TellsPicture (path : List ℕ) (file : Option (List ℕ)) (html : Bool) (status : ℕ) (old new : Option (List ℕ)) : Type 0 where
   pub recorded : Recorded
   pub read : IfSome file (IsTranscript recorded)
-  pub picture : ShowsRun html recorded.servers (length recorded.nodes) (length recorded.events) old new
+  pub picture : ShowsRun html path recorded.servers (length recorded.nodes) (length recorded.events) old new
   pub taken : status ≡ 0
 
 -- a transcript was told event by event: that of the file, where its bytes are known
 pub record TellsEach (file : Option (List ℕ)) (status : ℕ) (old new : Option (List ℕ)) : Type 0 where
-  pub recorded : Recorded
-  pub read : IfSome file (IsTranscript recorded)
-  pub lines : GrowsByEventLines (length recorded.events) old new
+  pub transcript : Transcript
+  pub read : IfSome file (IsTranscript (recorded transcript))
+  pub lines : GrowsByEventLines transcript.servers transcript.nodes.items transcript.events.items old new
   pub taken : status ≡ 0
 
 -- after how many of so many events, by what was given: after all, where nothing was
@@ -110,13 +111,14 @@ abbrev pub TellsCheck : Bool → Option (List ℕ) → ℕ → Option (List ℕ)
 TellsCheck true file status old new = TellsGoodShort file status old new
 TellsCheck false file status old new = TellsNotes file status old new
 
--- the text is a scenario, each of whose lines is a step's
-abbrev pub IsGoodPlain : List ℕ → Type 0
-IsGoodPlain text = (s : Scenario) × IsScenarioText text s × IsGood s
-
--- the output grows by such a text
-abbrev pub TellsPlain : ℕ → Option (List ℕ) → Option (List ℕ) → Type 0
-TellsPlain status old new = (text : List ℕ) × IsGoodPlain text × Appends old new text × (status ≡ 0)
+-- the output grows by the plain form of a text: that of the file, where its bytes are known
+pub record TellsPlain (file : Option (List ℕ)) (status : ℕ) (old new : Option (List ℕ)) : Type 0 where
+  pub text : List ℕ
+  pub read : IfSome file (λ known. text ≡ known)
+  pub form : List ℕ
+  pub expansion : IsExpansion text form
+  pub shown : Appends old new form
+  pub taken : status ≡ 0
 
 -- ---- many keys
 
@@ -155,16 +157,16 @@ pub record TellsSweep (file : Option (List ℕ)) (words : SweepWords) (status : 
 -- what is told of what a line asks for, `before` and `after` being the known files
 abbrev pub Tells : (before after : List ℕ → Option (List ℕ)) → CommandLine → ℕ → Option (List ℕ) → Option (List ℕ) → Type 0
 Tells before after (Run file out) status old new =
-    TellsScenario (before file.now) (option_and_then after (option_map (λ t. t.now) out)) status old new
+    TellsPlay (before file.now) (option_and_then after (option_map (λ t. t.now) out)) status old new
 Tells before after (Threads file workers out) status old new =
     TellsThreads (before file.now) (option_and_then after (option_map (λ t. t.now) out)) status old new
 Tells before after (Replay file) status old new = TellsReplay (before file.now) status old new
-Tells before after (Draw file html) status old new = TellsPicture (before file.now) html status old new
+Tells before after (Draw file html) status old new = TellsPicture file.now (before file.now) html status old new
 Tells before after (Check file short) status old new = TellsCheck short (before file.now) status old new
 Tells before after (Tell file) status old new = TellsEach (before file.now) status old new
 Tells before after (Inspect file at json) status old new =
     TellsStanding (before file.now) (option_map (λ k. k.now) at) status old new
-Tells before after (Expand file) status old new = TellsPlain status old new
+Tells before after (Expand file) status old new = TellsPlain (before file.now) status old new
 Tells before after (Sweep file words) status old new = TellsSweep (before file.now) words status old new
 
 -- the words ask for help, and the status is 0; or that is told for which they ask

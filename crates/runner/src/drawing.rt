@@ -2,9 +2,9 @@
 ghost use Rattle.std.specs.Prelude.{◌≡◌, ◌≢◌, ◌⊎◌, IfErr, IfOk, OnOk, length};
 ghost use Rattle.runner.specs.Pages.{GrowsByPage};
 ghost use Rattle.picture.specs.Pictures.{GrowsByPicture};
-ghost use Rattle.picture.specs.declared.fault.DrawError.TheVariants as errors;
 ghost use Rattle.file_runs.specs.declared.fault.Fault.TheVariants as faults;
 ghost use Rattle.file_runs.specs.Faults.{IsOfRun, IsPastReading, MayStopPrinting};
+ghost use Rattle.runner.specs.Inner.Faults.{drawing_fault};
 ghost use Rattle.runner.specs.Told.{ShowsRun, TellsPicture};
 
 use crate::paging::page;
@@ -12,10 +12,10 @@ use file_runs::fault::Fault;
 use file_runs::replaying::transcript_of;
 use file_runs::running::load_bytes;
 use file_runs::shelf::Shelf;
-use inspection::event_lines;
 use picture::{DrawError, draw};
 use std::alloc::Global;
 use std::io::Write;
+use telling::event_lines;
 use transcript::Transcript;
 
 /// Draws what a transcript says, as a picture or as a page.
@@ -27,25 +27,27 @@ pub(crate) fn draw_file<'a, F: Shelf, W: Write>(
     html: bool,
 ) -> Result<u8, Fault<'a>>
     ensures status { IfOk result (λ status. status ≡ 0) }
-    ensures told { IfOk result (λ status. TellsPicture (F.file shelf.old file.entry.now) html
-        status (W.contents out.old) (W.contents out.new)) }
+    ensures told { IfOk result (λ status. TellsPicture file.entry.now
+        (F.file shelf.old file.entry.now) html status
+        (W.contents out.old) (W.contents out.new)) }
     ensures unsaid { IfErr result (λ fault. (out.new ≡ out.old) ⊎ IsPastReading fault) }
     ensures left { IfErr result (λ fault. fault ≢ faults.Output → out.new ≡ out.old) }
     ensures of_run { IfErr result IsOfRun }
 {
     let bytes = load_bytes(shelf, file)?;
     let transcript = transcript_of(alloc, bytes.as_slice())?;
-    print_drawn(alloc, &transcript, html, out)?;
+    print_drawn(alloc, file, &transcript, html, out)?;
     Ok(0)
 }
 
 fn print_drawn<'a, W: Write>(
     alloc: Global,
+    file: &str,
     transcript: &Transcript,
     html: bool,
     out: &mut W,
 ) -> Result<(), Fault<'a>>
-    ensures drawn { OnOk result (ShowsRun html transcript.now.servers
+    ensures drawn { OnOk result (ShowsRun html file.now transcript.now.servers
         (length transcript.now.nodes.items) (length transcript.now.events.items)
         (W.contents out.old) (W.contents out.new)) }
     ensures left { IfErr result (λ fault. fault ≢ faults.Output → out.new ≡ out.old) }
@@ -53,7 +55,7 @@ fn print_drawn<'a, W: Write>(
     ensures of_run { IfErr result IsOfRun }
 {
     if html {
-        print_page(alloc, transcript, out)
+        print_page(alloc, file, transcript, out)
     } else {
         print_picture(alloc, transcript, out)
     }
@@ -61,10 +63,11 @@ fn print_drawn<'a, W: Write>(
 
 fn print_page<'a, W: Write>(
     alloc: Global,
+    file: &str,
     transcript: &Transcript,
     out: &mut W,
 ) -> Result<(), Fault<'a>>
-    ensures page { OnOk result (GrowsByPage transcript.now.servers
+    ensures page { OnOk result (GrowsByPage file.now transcript.now.servers
         (length transcript.now.nodes.items) (length transcript.now.events.items)
         (W.contents out.old) (W.contents out.new)) }
     ensures left { IfErr result (λ fault. fault ≢ faults.Output → out.new ≡ out.old) }
@@ -73,7 +76,7 @@ fn print_page<'a, W: Write>(
 {
     let nodes = transcript.nodes.as_slice();
     let events = transcript.events.as_slice();
-    match page(alloc, transcript.servers, nodes, events, out) {
+    match page(alloc, file, transcript.servers, nodes, events, out) {
         Ok(()) => Ok(()),
         Err(error) => Err(fault_of(error)),
     }
@@ -102,6 +105,8 @@ fn print_picture<'a, W: Write>(
 
 // The line that is told of each event.
 fn told_of<'a>(alloc: Global, transcript: &Transcript) -> Result<Vec<String>, Fault<'a>>
+    ensures lines { IfOk result (λ lines.
+        length lines.items ≡ length transcript.now.events.items) }
     ensures fault { IfErr result MayStopPrinting }
     ensures of_run { IfErr result IsOfRun }
 {
@@ -116,7 +121,7 @@ fn told_of<'a>(alloc: Global, transcript: &Transcript) -> Result<Vec<String>, Fa
 
 // A group of a transcript's size is made, unless there is no memory.
 fn fault_of<'a>(error: DrawError) -> Fault<'a>
-    ensures output { error ≡ errors.Output → result ≡ faults.Output }
+    ensures same { result ≡ drawing_fault error }
     ensures fault { MayStopPrinting result }
     ensures of_run { IsOfRun result }
 {

@@ -1,9 +1,11 @@
 //! A transcript's file, told event by event, or how its group stands after some of them.
-ghost use Rattle.std.specs.Prelude.{◌≡◌, ◌≢◌, ◌⊎◌, IfErr, IfOk, IfSome, OnOk, length, option_map};
-ghost use Rattle.inspection.specs.Told.{GrowsByEventLines, GrowsByLines};
-ghost use Rattle.inspection.specs.declared.fault.InspectError.TheVariants as errors;
+ghost use Rattle.std.specs.Prelude.{◌≡◌, ◌≢◌, ◌⊎◌, ℕ, IfErr, IfNone, IfOk, IfSome, OnOk, length, option_map};
+ghost use Rattle.inspection.specs.Told.{GrowsByLines};
+ghost use Rattle.telling.specs.Told.{GrowsByEventLines};
+ghost use Rattle.playback.specs.declared.fault.PlaybackError.TheVariants as stops;
 ghost use Rattle.file_runs.specs.declared.fault.Fault.TheVariants as faults;
 ghost use Rattle.file_runs.specs.Faults.{IsOfRun, IsPastReading};
+ghost use Rattle.runner.specs.Inner.Faults.{form_in, seeing_fault};
 ghost use Rattle.runner.specs.Told.{IsAfter, TellsEach, TellsStanding};
 
 use event_texts::read_number;
@@ -11,9 +13,11 @@ use file_runs::fault::Fault;
 use file_runs::replaying::transcript_of;
 use file_runs::running::load_bytes;
 use file_runs::shelf::Shelf;
-use inspection::{Form, InspectError, inspect, tell};
+use inspection::{Form, InspectError, inspect};
+use playback::PlaybackError;
 use std::alloc::Global;
 use std::io::Write;
+use telling::tell;
 use transcript::Transcript;
 
 /// Tells what each event of a transcript did.
@@ -63,13 +67,17 @@ pub(crate) fn inspect_file<'a, F: Shelf, W: Write>(
     Ok(0)
 }
 
-fn form_of(json: bool) -> Form {
+fn form_of(json: bool) -> Form
+    ensures { result ≡ form_in json }
+{
     if json { Form::Json } else { Form::Text }
 }
 
 // After how many of so many events; none where the word is no such number.
 fn after_of(at: Option<&str>, all: usize) -> Option<usize>
-    ensures { IfSome result (IsAfter (option_map (λ k. k.now) at.entry) all) }
+    ensures some { IfSome result (IsAfter (option_map (λ k. k.now) at.entry) all) }
+    ensures none { IfNone result
+        ((after : ℕ) → ¬ IsAfter (option_map (λ k. k.now) at.entry) all after) }
 {
     let Some(word) = at else {
         return Some(all);
@@ -87,7 +95,8 @@ fn print_events<'a, W: Write>(
     transcript: &Transcript,
     out: &mut W,
 ) -> Result<(), Fault<'a>>
-    ensures lines { OnOk result (GrowsByEventLines (length transcript.now.events.items)
+    ensures lines { OnOk result (GrowsByEventLines transcript.now.servers
+        transcript.now.nodes.items transcript.now.events.items
         (W.contents out.old) (W.contents out.new)) }
     ensures left { IfErr result (λ fault. fault ≢ faults.Output → out.new ≡ out.old) }
     ensures of_run { IfErr result IsOfRun }
@@ -97,7 +106,7 @@ fn print_events<'a, W: Write>(
     let events = transcript.events.as_slice();
     match tell(alloc, transcript.servers, nodes, events, out) {
         Ok(()) => Ok(()),
-        Err(error) => Err(fault_of(error, events.len())),
+        Err(error) => Err(stop_of(error)),
     }
 }
 
@@ -123,7 +132,7 @@ fn print_standing<'a, W: Write>(
 
 // A group of a transcript's size is made, unless there is no memory.
 fn fault_of<'a>(error: InspectError, events: usize) -> Fault<'a>
-    ensures output { error ≡ errors.Output → result ≡ faults.Output }
+    ensures same { result ≡ seeing_fault error events }
     ensures of_run { IsOfRun result }
     ensures past { IsPastReading result }
 {
@@ -131,5 +140,18 @@ fn fault_of<'a>(error: InspectError, events: usize) -> Fault<'a>
         InspectError::Output => Fault::Output,
         InspectError::NoSuchEvent => Fault::NoSuchEvent(events),
         InspectError::NoMemory | InspectError::Group => Fault::NoMemory,
+    }
+}
+
+// A group of a transcript's size is made, unless there is no memory.
+fn stop_of<'a>(error: PlaybackError) -> Fault<'a>
+    ensures output { error ≡ stops.Output → result ≡ faults.Output }
+    ensures memory { error ≢ stops.Output → result ≡ faults.NoMemory }
+    ensures of_run { IsOfRun result }
+    ensures past { IsPastReading result }
+{
+    match error {
+        PlaybackError::Output => Fault::Output,
+        PlaybackError::NoMemory | PlaybackError::Group => Fault::NoMemory,
     }
 }
