@@ -9,3 +9,4 @@ pub mod StepLines
 pub mod Leading
 pub mod Tasks
 pub mod Waiting
+pub mod GroupStandings

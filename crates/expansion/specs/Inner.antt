@@ -3,5 +3,6 @@ pub mod Parts
 pub mod Totals
 pub mod Taking
 pub mod Standings
+pub mod GroupStandings
 pub mod Uses
 pub mod Firsts

@@ -1,11 +1,13 @@
 //! How a group stands: what a step of settling may change.
-ghost use Rattle.std.specs.Prelude.{◌≡◌, ◌/◌, false, MatchOption, count_by, length};
-ghost use Rattle.std.specs.Prelude.{nat_lt, option_map};
-ghost use Rattle.std.specs.List.{list_any};
+ghost use Rattle.std.specs.Prelude.{◌≡◌, ◌++◌, ◌/◌, false, IfNone, IfOk, IfSome, MatchOption, OnOk, count_by};
+ghost use Rattle.std.specs.Prelude.{length, map, nat_lt, option_map};
+ghost use Rattle.std.specs.List.{flat_map, list_any};
 ghost use Rattle.expansion.specs.Inner.Standings.{IsLatestLeader, StandsSo, has_all_applied};
+ghost use Rattle.expansion.specs.Inner.GroupStandings.{GroupStandsSo, NoServerAt, StandsAt};
+ghost use Rattle.expansion.specs.Inner.GroupStandings.{running_at, running_id};
 ghost use Rattle.expansion.specs.Inner.Standings.{is_behind, is_shorter, is_up, later, leads, plans_of};
 
-use client_agent::Agent;
+use client_agent::{Agent, RunningAllocation};
 use playing::play::Play;
 use raft_core::Role;
 use rows::{AllocId, Index, NoMemory, ServerId, Term};
@@ -67,23 +69,26 @@ fn plans_of(server: &Server) -> usize
     }
 }
 
-fn standing_at(play: &Play, position: usize) -> Option<ServerStanding> {
+// How the server at a place of a play stands; none where there is none.
+fn standing_at(play: &Play, position: usize) -> Option<ServerStanding>
+    ensures some { IfSome result (StandsAt play.now position) }
+    ensures none { IfNone result (NoServerAt play.now position) }
+{
     let id = ServerId::from_position(position)?;
     let server = play.world.server(id)?;
     Some(server_standing(id, server, play.workers[id.position()].len()))
 }
 
 /// How the group of a play stands.
-pub(crate) fn standing_of(alloc: Global, play: &Play) -> Result<Standing, NoMemory> {
+pub(crate) fn standing_of(alloc: Global, play: &Play) -> Result<Standing, NoMemory>
+    ensures { IfOk result (GroupStandsSo play.now) }
+{
+    let running = running_of(alloc, play.world.clients())?;
     let mut servers = Vec::new(alloc);
     for position in 0..play.world.size() {
         if let Some(own) = standing_at(play, position) {
             servers.push(own)?;
         }
-    }
-    let mut running = Vec::new(alloc);
-    for client in play.world.clients() {
-        put_running(client, &mut running)?;
     }
     Ok(Standing {
         servers,
@@ -92,12 +97,31 @@ pub(crate) fn standing_of(alloc: Global, play: &Play) -> Result<Standing, NoMemo
     })
 }
 
-fn put_running(client: &Agent, running: &mut Vec<AllocId>) -> Result<(), NoMemory> {
-    let Some(own) = client.running() else {
-        return Ok(());
-    };
+// What runs at these clients, in order.
+fn running_of(alloc: Global, clients: &[Agent]) -> Result<Vec<AllocId>, NoMemory>
+    ensures { IfOk result (λ ids. ids.items ≡ flat_map running_at clients.now) }
+{
+    let mut running = Vec::new(alloc);
+    for client in clients {
+        put_running(client, &mut running)?;
+    }
+    Ok(running)
+}
+
+fn put_running(client: &Agent, running: &mut Vec<AllocId>) -> Result<(), NoMemory>
+    ensures { OnOk result (running.new.items ≡ running.old.items ++ running_at client.now) }
+{
+    match client.running() {
+        Some(own) => put_ids(own, running),
+        None => Ok(()),
+    }
+}
+
+fn put_ids(own: &[RunningAllocation], ids: &mut Vec<AllocId>) -> Result<(), NoMemory>
+    ensures { OnOk result (ids.new.items ≡ ids.old.items ++ map running_id own.now) }
+{
     for allocation in own {
-        running.push(allocation.id)?;
+        ids.push(allocation.id)?;
     }
     Ok(())
 }

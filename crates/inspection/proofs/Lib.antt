@@ -1,3 +1,4 @@
-pub mod Applied
+pub mod AppliedNumbers
 pub mod Falls
+pub mod Reports
 pub mod Zips

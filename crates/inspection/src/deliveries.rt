@@ -1,6 +1,6 @@
 //! The deliveries that servers sent, as their messages tell.
 ghost use Rattle.std.specs.Prelude.{◌≡◌, None, fold};
-ghost use Rattle.inspection.specs.Inner.Deliveries.{later};
+ghost use Rattle.inspection.specs.Inner.Deliveries.{later, server_of};
 
 use fsm_state::Cluster;
 use rows::{Actor, Delivery, EvalId, NoMemory, Refusal, ServerId, WorkerResponse};
@@ -101,11 +101,22 @@ fn sent_by(message: &Message<Cluster>) -> Option<Sent> {
     let Body::Response(WorkerResponse::Delivered(Some(delivery))) = message.body() else {
         return None;
     };
-    let (Actor::Server(from), Actor::Server(to)) = (message.from(), message.to()) else {
-        return None;
-    };
-    let (delivery, to) = (*delivery, to.number());
-    Some(Sent { from, delivery, to })
+    let from = server_of(message.from())?;
+    let to = server_of(message.to())?;
+    Some(Sent {
+        from,
+        delivery: *delivery,
+        to: to.number(),
+    })
+}
+
+fn server_of(actor: Actor) -> Option<ServerId>
+    ensures { result ≡ server_of actor }
+{
+    match actor {
+        Actor::Server(server) => Some(server),
+        Actor::Client(_) => None,
+    }
 }
 
 // A vote is given, entries come in the place of others, or a state in that of entries.

@@ -100,9 +100,25 @@ impl Seen {
             return Ok(());
         }
         match actor {
-            Some(Actor::Server(id)) => self.look_at_server(alloc, world, recorder, id, event),
-            Some(Actor::Client(id)) => self.look_at_client(alloc, world, recorder, id),
+            Some(actor) => self.look_at(alloc, world, recorder, actor, event),
             None => Ok(()),
+        }
+    }
+
+    // Looks at who took an event.
+    fn look_at(
+        &mut self,
+        alloc: Global,
+        world: &World,
+        recorder: &mut Recorder,
+        actor: Actor,
+        event: &Event,
+    ) -> Result<(), NoMemory>
+        ensures { recorder.new ≡ recorder.old }
+    {
+        match actor {
+            Actor::Server(id) => self.look_at_server(alloc, world, recorder, id, event),
+            Actor::Client(id) => self.look_at_client(alloc, world, recorder, id),
         }
     }
 

@@ -1,5 +1,5 @@
 -- Rows of cells as lines.
-use Rattle.std.specs.Prelude.{ℕ, ◌+◌, ◌-◌, String, Vec, List, [], ◌∷◌, ◌++◌, length, map, replicate, string_bytes}
+use Rattle.std.specs.Prelude.{ℕ, ◌+◌, ◌-◌, String, Vec, List, [], ◌∷◌, ◌++◌, length, map, max, replicate, string_bytes}
 use Rattle.std.specs.List.{fold}
 use Rattle.std.specs.declared.alloc.Global.{Global}
 
@@ -43,3 +43,17 @@ with_columns front (cell ∷ cells) (width ∷ widths) = with_columns (with_colu
 -- a row in columns of these widths, with two spaces between them and none at the end
 abbrev pub aligned_line : List ℕ → List (List ℕ) → List ℕ
 aligned_line widths row = (with_columns (laid [] 0) row widths).line
+
+-- columns that are as wide as these cells too
+abbrev pub widened : List ℕ → List (List ℕ) → List ℕ
+widened widths [] = widths
+widened [] (cell ∷ cells) = length cell ∷ widened [] cells
+widened (width ∷ widths) (cell ∷ cells) = max width (length cell) ∷ widened widths cells
+
+-- how wide the columns of these rows are: each as its widest cell
+abbrev pub column_widths : List (List (List ℕ)) → List ℕ
+column_widths rows = fold widened [] rows
+
+-- these rows, in columns that line up
+abbrev pub aligned_lines : List (List (List ℕ)) → List (List ℕ)
+aligned_lines rows = map (aligned_line (column_widths rows)) rows

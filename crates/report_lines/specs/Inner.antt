@@ -1,2 +1,3 @@
 -- Words of private contracts.
 pub mod Entries
+pub mod Widths

@@ -1,6 +1,7 @@
 //! Rows of cells whose columns line up.
-ghost use Rattle.std.specs.Prelude.{◌≡◌, ◌+◌, ◌++◌, List, [], ℕ, IfOk, OnOk, length, map, replicate, string_bytes};
-ghost use Rattle.report_lines.specs.Grids.{aligned_line, cells_of, laid, loose_line, with_cell, with_column};
+ghost use Rattle.std.specs.Prelude.{◌≡◌, ◌≤◌, ◌+◌, ◌++◌, [], IfOk, OnOk, length, map, replicate, string_bytes, vec_len};
+ghost use Rattle.report_lines.specs.Grids.{aligned_line, aligned_lines, cells_of, column_widths, laid, loose_line, widened, with_cell, with_column};
+ghost use Rattle.report_lines.specs.Inner.Widths.{with_width};
 
 use rows::NoMemory;
 use std::alloc::Global;
@@ -29,16 +30,23 @@ pub struct Grid {
 }
 
 // A column is so wide at least.
-fn widen(widths: &mut Vec<usize>, column: usize, width: usize) -> Result<(), NoMemory> {
-    match widths.get_mut(column) {
-        Some(wide) => *wide = (*wide).max(width),
-        None => widths.push(width)?,
+fn widen(widths: &mut Vec<usize>, column: usize, width: usize) -> Result<(), NoMemory>
+    requires { column ≤ vec_len widths.old }
+    ensures { OnOk result (widths.new.items ≡ with_width column width widths.old.items) }
+{
+    if column < widths.len() {
+        let wide = widths[column].max(width);
+        widths[column] = wide;
+        return Ok(());
     }
+    widths.push(width)?;
     Ok(())
 }
 
 // How wide the columns of these rows are.
-fn widths(alloc: Global, rows: &[Vec<String>]) -> Result<Vec<usize>, NoMemory> {
+fn widths(alloc: Global, rows: &[Vec<String>]) -> Result<Vec<usize>, NoMemory>
+    ensures { IfOk result (λ widths. widths.items ≡ column_widths (map cells_of rows.now)) }
+{
     let mut widths = Vec::new(alloc);
     for row in rows {
         widen_row(&mut widths, row)?;
@@ -46,8 +54,11 @@ fn widths(alloc: Global, rows: &[Vec<String>]) -> Result<Vec<usize>, NoMemory> {
     Ok(widths)
 }
 
-/// Columns are wide enough for these cells.
-pub(crate) fn widen_row(widths: &mut Vec<usize>, row: &[String]) -> Result<(), NoMemory> {
+/// Columns are as wide as these cells too.
+pub(crate) fn widen_row(widths: &mut Vec<usize>, row: &[String]) -> Result<(), NoMemory>
+    ensures { OnOk result (widths.new.items
+        ≡ widened widths.old.items (map string_bytes row.now)) }
+{
     for (column, cell) in row.iter().enumerate() {
         widen(widths, column, cell.len())?;
     }
@@ -139,8 +150,8 @@ impl Grid {
     /// The lines of the rows, one for each, in their order.
     pub fn lines(&self, alloc: Global) -> Result<Vec<String>, NoMemory>
         ensures count { IfOk result (λ lines. length lines.items ≡ length self.now.rows.items) }
-        ensures lines { IfOk result (λ lines. (widths : List ℕ) × (map string_bytes lines.items
-            ≡ map (aligned_line widths) (map cells_of self.now.rows.items))) }
+        ensures lines { IfOk result (λ lines.
+            map string_bytes lines.items ≡ aligned_lines (map cells_of self.now.rows.items)) }
     {
         let widths = widths(alloc, &self.rows)?;
         let mut lines = Vec::new(alloc);

@@ -40,8 +40,8 @@ use Rattle.runner.specs.ThreadSteps.{LinesOnThreads}
 -- A scenario was played on threads, each of whose lines is a step's: that of the file, where its
 -- bytes are known. Each of its steps came to the cells of a group of its size and nodes. All that
 -- these noted, each event once, is what happened to the group to which they close. Told are the
--- steps that were refused, and the last lines of that group; and of that the transcript is, where the
--- bytes of that are known.
+-- steps that were refused, and the last lines of that group; and of that the transcript is, where
+-- the bytes of that are known.
 pub record TellsThreads (file written : Option (List ℕ)) (status : ℕ) (old new : Option (List ℕ)) : Type 0 where
   pub scenario : Scenario
   pub read : IfSome file (λ text. IsScenarioText text scenario)
@@ -59,8 +59,8 @@ pub record TellsThreads (file written : Option (List ℕ)) (status : ℕ) (old n
 
 -- ---- transcripts
 
--- the output grows by a page of a run of so many servers, clients and events, which has the name of the
--- file at this path, or by a picture
+-- the output grows by a page of a run of so many servers, clients and events, which has the name of
+-- the file at this path, or by a picture
 abbrev pub ShowsRun : Bool → List ℕ → ℕ → ℕ → ℕ → Option (List ℕ) → Option (List ℕ) → Type 0
 ShowsRun true path servers clients events old new = GrowsByPage path servers clients events old new
 ShowsRun false path servers clients events old new = GrowsByPicture servers clients events old new
@@ -85,8 +85,8 @@ abbrev pub IsAfter : Option (List ℕ) → ℕ → ℕ → Type 0
 IsAfter None all after = after ≡ all
 IsAfter (Some word) all after = (word ≡ decimal after) × (after ≤ all)
 
--- it was told how a transcript's group stands: that of the file, where its bytes are known, after as
--- many of its events as were asked for
+-- it was told how a transcript's group stands: that of the file, where its bytes are known, after
+-- as many of its events as were asked for
 pub record TellsStanding (file at : Option (List ℕ)) (status : ℕ) (old new : Option (List ℕ)) : Type 0 where
   pub recorded : Recorded
   pub read : IfSome file (IsTranscript recorded)
@@ -139,8 +139,8 @@ ShowsRows false settings rows old new =
     ⊎ ((s : Summary) × IsSummary rows s × Appends old new (summary_text settings s))
 
 -- A scenario was played under many keys, each of whose lines is a step's: that of the file, where
--- its bytes are known. There is a row for each key, which says how the run under that key ended; told
--- is each of them, or what they come to.
+-- its bytes are known. There is a row for each key, which says how the run under that key ended;
+-- told is each of them, or what they come to.
 pub record TellsSweep (file : Option (List ℕ)) (words : SweepWords) (status : ℕ) (old new : Option (List ℕ)) : Type 0 where
   pub scenario : Scenario
   pub read : IfSome file (λ text. IsScenarioText text scenario)

@@ -12,7 +12,7 @@ pub(crate) const FRONT: &str = r#"<!DOCTYPE html>
 pub(crate) const STYLE: &str = r#"</title>
 <style>
 :root { color-scheme: light dark; --ground: #ffffff; --ink: #000000; --soft: #444444;
-  --rule: #777777; --shown: #d08a1d; --found: #1f4e79; --came: #d9efdf; }
+  --rule: #777777; --shown: #a86400; --found: #1f4e79; --came: #d9efdf; }
 body { margin: 0; height: 100vh; display: flex; background: var(--ground); color: var(--ink); }
 body.below { flex-direction: column; }
 #run { flex: 0 0 auto; max-width: 70%; min-height: 0; overflow: auto; position: relative; }
@@ -27,7 +27,7 @@ body.below aside { flex: 0 0 38%; border-left: 0; border-top: 1px solid var(--ru
 header { display: flex; flex-wrap: wrap; gap: 0.3em 2em; align-items: center; }
 h1 { font-size: 14px; margin: 0; }
 aside p { margin: 0.4em 0; }
-details, form { color: var(--soft); }
+details, form, ::placeholder { color: var(--soft); opacity: 1; }
 #event { font-weight: bold; }
 #standing { flex: 1 1 0; min-height: 0; overflow: auto; font: 11px/1.4 monospace; }
 #lines { white-space: pre; columns: 50em; column-gap: 2em; }
@@ -36,6 +36,7 @@ details, form { color: var(--soft); }
 #lines .came { background: var(--came); }
 #lines .came::before { content: "+"; position: absolute; left: 0.3em; font-weight: bold; }
 #mark { position: absolute; left: 0; z-index: 1; pointer-events: none; will-change: top;
+  box-sizing: border-box; border-left: 4px solid var(--shown);
   background: #f8ead2; mix-blend-mode: multiply; }
 #mark.kept { background: #f2d9ad; }
 rect.found { fill: var(--found); fill-opacity: 0.1; }
@@ -74,7 +75,7 @@ rect.found { fill: var(--found); fill-opacity: 0.1; }
   #paper table { width: 100%; border-collapse: collapse; }
   #paper tr { break-inside: avoid; }
   #paper td { padding: 0; }
-  aside { display: block; border: 0; padding: 0; break-before: page; }
+  aside, body.below aside { display: block; border: 0; padding: 0; break-before: page; }
   #standing { overflow: visible; }
   #lines { white-space: pre-wrap; columns: auto; }
   #lines .came { background: none; }
@@ -101,8 +102,9 @@ title="Of a server or a client, what it took. Of another text, what is told with
 </form>
 <details>
 <summary>Keys</summary>
-Told is the row that the pointer is on. A click keeps it, or lets it go. Left, Right, Home and End go
-from event to event. Enter goes on to what is found, Shift+Enter back.
+Told is the row that the pointer is on. A click keeps it, or lets it go. Left, Right, Home and End
+go from event to event. Enter goes on to what is found, Shift+Enter back. Lines with a + came with
+the event.
 </details>
 </header>
 <p id="event" aria-live="polite"></p>
@@ -330,11 +332,12 @@ function fit() {
 addEventListener("resize", fit);
 
 // ---- On paper: strips of ten rows, so that no page ends within a row, and names above each page.
+// A strip ends above the text of the next row, which stands at that row's top.
 const STRIP = 10;
 function edges() {
   const tops = rows.filter((row, at) => at > 0 && at % STRIP === 0);
   const height = Number(picture.getAttribute("height"));
-  return [FIRST, ...tops.map((row) => Number(row.getAttribute("y"))), height];
+  return [FIRST, ...tops.map((row) => Number(row.getAttribute("y")) - 2), height];
 }
 function fill(strips, stripAt) {
   for (const shape of group.querySelectorAll(":scope > :not(.event)")) {

@@ -1,2 +1,4 @@
+pub mod Growing
 pub mod Runs
 pub mod Rows
+pub mod Sending

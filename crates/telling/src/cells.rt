@@ -1,5 +1,5 @@
 //! The cells of an event's line.
-ghost use Rattle.std.specs.Prelude.{◌≡◌, IfOk, OnOk, decimal, option_copied, option_map, string_bytes};
+ghost use Rattle.std.specs.Prelude.{◌≡◌, IfOk, IsOkAnd, OnOk, Some, decimal, option_copied, option_map, string_bytes};
 ghost use Rattle.report_lines.specs.Grids.{cells_of};
 ghost use Rattle.telling.specs.Inner.Cells.{PutsCell};
 ghost use Rattle.telling.specs.Events.{TellsEvent, actor_of, answered_text, delivered_text, frame_of, sender_text, server_of, took_text, who_text};
@@ -107,9 +107,17 @@ fn server_of(world: &World, actor: Option<Actor>) -> Option<&Server>
     ensures { option_copied result ≡ server_of world.now actor }
 {
     match actor {
-        Some(Actor::Server(id)) => world.server(id),
-        Some(Actor::Client(_)) => None,
+        Some(actor) => server_at(world, actor),
         None => None,
+    }
+}
+
+fn server_at(world: &World, actor: Actor) -> Option<&Server>
+    ensures { option_copied result ≡ server_of world.now (Some actor) }
+{
+    match actor {
+        Actor::Server(id) => world.server(id),
+        Actor::Client(_) => None,
     }
 }
 
@@ -171,7 +179,7 @@ fn answered(
     answer: Option<u8>,
     took: Result<String, NoMemory>,
 ) -> Result<String, NoMemory>
-    ensures { IfOk result (λ text. IfOk took (λ own.
+    ensures { IfOk result (λ text. IsOkAnd took (λ own.
         string_bytes text ≡ answered_text answer (string_bytes own))) }
 {
     let took = took?;

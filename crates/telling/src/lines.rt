@@ -1,7 +1,7 @@
 //! What each event of a run did, a line an event.
 ghost use Rattle.std.specs.Prelude.{◌≡◌, ◌≢◌, ◌+◌, ◌++◌, ◌∷◌, List, ℕ, length, map, string_bytes, IfErr, IfOk, OnOk};
 ghost use Rattle.labels.specs.Groups.{MayBe, MayNotBe};
-ghost use Rattle.report_lines.specs.Grids.{aligned_line, cells_of};
+ghost use Rattle.report_lines.specs.Grids.{aligned_lines, cells_of};
 ghost use Rattle.telling.specs.Told.{AreEventLines, GrowsByEventLines, heads};
 ghost use Rattle.telling.specs.Events.{TellsRun};
 ghost use Rattle.telling.specs.Marks.{first_mark};
@@ -69,9 +69,9 @@ pub fn event_lines(
 
 // The line of heads, and the lines of a group that takes these events.
 fn told_lines(alloc: Global, world: World, events: &[Event]) -> Result<Vec<String>, NoMemory>
-    ensures { IfOk result (λ lines. (rows : List (List (List ℕ))) × (widths : List ℕ)
+    ensures { IfOk result (λ lines. (rows : List (List (List ℕ)))
         × TellsRun world first_mark 0 events.now rows
-        × (map string_bytes lines.items ≡ map (aligned_line widths) (heads ∷ rows))) }
+        × (map string_bytes lines.items ≡ aligned_lines (heads ∷ rows))) }
 {
     let mut grid = Grid::new(alloc);
     let first = heads(alloc)?;

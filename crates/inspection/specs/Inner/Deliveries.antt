@@ -1,5 +1,7 @@
 -- What became of the evaluations that a desk gave out.
-use Rattle.std.specs.Prelude.{ℕ, nat_le, is_some, if◌then◌else◌, Option, Some, List, codes}
+use Rattle.std.specs.Prelude.{ℕ, nat_le, is_some, if◌then◌else◌, Option, Some, None, List, codes}
+use Rattle.rows.specs.declared.actor.Actor.{Actor}
+use Rattle.rows.specs.declared.actor.Actor.TheVariants as actors
 use Rattle.rows.specs.declared.evaluation.EvalId.{EvalId}
 use Rattle.cluster_model.specs.Words.{same_eval}
 use Rattle.group_model.specs.Brokers.{Task}
@@ -15,3 +17,8 @@ delivery_word task times =
 -- a delivery, if it is of this evaluation, comes in the place of the last one before it
 abbrev pub later : EvalId → Option Sent → Sent → Option Sent
 later eval last one = if same_eval one.delivery.eval eval then Some one else last
+
+-- the server that an actor is
+abbrev pub server_of : Actor → Option ℕ
+server_of (actors.Server server) = Some server
+server_of (actors.Client client) = None

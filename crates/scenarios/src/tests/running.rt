@@ -1,8 +1,8 @@
 //! Groups on threads: while one worker is held at the gate, others plan and their plans are
 //! applied; while one server's cell is held, others take their turns; and elections on nets that
-//! lose and repeat messages. Each gives up after so many turns of waiting. What has to come of it is
-//! worked out by hand from Raft and from Nomad's scheduling, and the words of keys by a program that
-//! was written from Bernstein's paper.
+//! lose and repeat messages. Each gives up after so many turns of waiting. What has to come of it
+//! is worked out by hand from Raft and from Nomad's scheduling, and the words of keys by a program
+//! that was written from Bernstein's paper.
 ghost use Rattle.std.specs.Prelude.{◌≡◌};
 
 use crate::tests::held_cells::{actor, nodes, opened};
@@ -410,9 +410,9 @@ where
     Ok(stand::<Brand, _>(rt, alloc, book, nodes, net)? == (role, events, messages, 0))
 }
 
-/// In a group without threads: how many messages a queue has room for, and how many of a hundred are
-/// lost and come twice. Then how many messages were counted as lost after server 1 stood once, and
-/// after it stood twice, and how many are on their way then. Each time both others are asked.
+/// In a group without threads: how many messages a queue has room for, and how many of a hundred
+/// are lost and come twice. Then how many messages were counted as lost after server 1 stood once,
+/// and after it stood twice, and how many are on their way then. Each time both others are asked.
 type Overflow = (usize, u8, u8, u64, u64, u64);
 
 const OVERFLOWS: &[Overflow] = &[
@@ -437,8 +437,8 @@ fn stand_alone<B: BookId, R: Wait>(
 }
 
 // In a group without threads: how many messages were lost after server 1 stood once and after it
-// stood twice, how many are on their way then, how often a flow looks before and after, and how many
-// messages were sent.
+// stood twice, how many are on their way then, how often a flow looks before and after, and how
+// many messages were sent.
 fn overflow<B, R>(
     rt: &R,
     alloc: Global,

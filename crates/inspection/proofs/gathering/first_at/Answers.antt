@@ -1,5 +1,5 @@
 use Rattle.std.proofs.Common.{rules}
-use Rattle.inspection.proofs.Applied.{none_more}
+use Rattle.inspection.proofs.AppliedNumbers.{none_more}
 use Rattle.inspection.proofs.gathering.first_at.Goals as goal
 
 pub loop-place-preserved : goal.loop-place-preserved

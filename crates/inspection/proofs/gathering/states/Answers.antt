@@ -1,10 +1,10 @@
-use Rattle.std.proofs.Common.{◌≡◌, ◌<◌, ◌≤◌, List, false, inl, inr, length, refl, rules, subst, sym, take, true}
+use Rattle.std.proofs.Common.{◌≡◌, ◌∙◌, ◌<◌, ◌≤◌, List, inl, inr, length, refl, rules, subst, sym, true, true≢false}
 use Rattle.std.specs.List.{AllZip, list_any}
 use Rattle.std.proofs.lemmas.List.{take_all}
 use Rattle.std.proofs.lemmas.Option.{slice_get_read}
 use Rattle.report_lines.specs.declared.recorder.Standing.{Standing}
 use Rattle.inspection.specs.Inner.Applied.{AreStanding, IsStateAfter, has_applied}
-use Rattle.inspection.proofs.Applied.{is_applied}
+use Rattle.inspection.proofs.AppliedNumbers.{is_applied}
 use Rattle.inspection.proofs.Zips.{zip_more}
 use Rattle.inspection.proofs.gathering.states.Goals as goal
 
@@ -18,7 +18,7 @@ loop-one-preserved c =
     let so : AreStanding servers items = rw (sym c.deref-one-items.ensures.value) at c.in_ok-all.ensures in
     let some : list_any (has_applied one.applied) servers ≡ true = is_applied servers items so i one (slice_get_read items _ i one refl lt c.one-item.is) in
     elim c.in_ok-push_state.ensures [
-      | inl none ↦ absurd (cc)
+      | inl none ↦ absurd (true≢false (sym some ∙ none.0))
       | inr put ↦ zip_more (IsStateAfter servers) items i one c.loop-one.reports.items _ put.0 lt c.one-item.is c.loop-one.invariant put.1 put.2
     ]
 

@@ -14,7 +14,7 @@ returns-clause-told g c =
       recorded = r;
       read = of_file (IsTranscript r) _ c.in_ok-bytes.bytes.items c.in_ok-bytes.ensures.bytes (rw c.as_slice.ensures.value at c.in_ok-transcript.ensures.named);
       after = c.in-Some.after;
-      asked = rw (length-map t.events.items group_event) (rw all_is at c.in-Some.ensures);
+      asked = rw (length-map t.events.items group_event) (rw all_is at c.in-Some.ensures.some);
       lines = c.in_ok-print_standing.ensures.lines;
       taken = refl;
     }

@@ -1,4 +1,4 @@
-use Rattle.std.proofs.Common.{List, ℕ, string_bytes, subst, sym}
+use Rattle.std.proofs.Common.{List, string_bytes, subst, sym}
 use Rattle.rows.specs.declared.allocation.Allocation.{Allocation}
 use Rattle.telling.specs.Words.{TellsNew}
 use Rattle.telling.specs.Changes.{IsOldAlloc, alloc_words}

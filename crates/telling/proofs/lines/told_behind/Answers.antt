@@ -1,8 +1,7 @@
-use Rattle.std.proofs.Common.{◌≡◌, ◌∙◌, ◌+◌, ◌<◌, ◌≤◌, ◌++◌, ◌∷◌, [], List, ap, arith, drop, length, map, refl, rules, sym}
+use Rattle.std.proofs.Common.{◌∙◌, ◌+◌, ◌<◌, ◌∷◌, ap, drop, length, map, refl, rules, sym}
 use Rattle.std.proofs.lemmas.List.{drop_more, map-append}
 use Rattle.group_inputs.specs.declared.event.Event.{Event}
 use Rattle.report_lines.specs.Grids.{cells_of}
-use Rattle.telling.specs.Inner.Newest.{mark_of}
 use Rattle.telling.proofs.Runs.{all_told, none_so_far, one_more}
 use Rattle.telling.proofs.lines.told_behind.Goals as goal
 

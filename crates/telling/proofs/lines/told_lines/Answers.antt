@@ -1,7 +1,6 @@
-use Rattle.std.proofs.Common.{◌≡◌, ◌∙◌, ◌++◌, ◌∷◌, [], List, String, Vec, ℕ, ap, map}
+use Rattle.std.proofs.Common.{◌∙◌, ◌++◌, ◌∷◌, [], List, String, Vec, ℕ, ap, map}
 use Rattle.std.specs.declared.alloc.Global.{Global}
-use Rattle.report_lines.specs.Grids.{aligned_line, cells_of}
-use Rattle.telling.specs.Told.{heads}
+use Rattle.report_lines.specs.Grids.{aligned_lines, cells_of}
 use Rattle.telling.proofs.lines.told_lines.Goals as goal
 
 pub returns : goal.returns
@@ -14,8 +13,6 @@ returns c =
     ∙ ap (λ (before : List (Vec (String Global) Global)). before ++ first ∷ []) c.new-grid.ensures in
     let front = ap (map cells_of) alone ∙ ap (λ (row : List (List ℕ)). row ∷ []) c.in_ok-first.ensures in (
       rows.0,
-      lines.0,
       rows.1,
-      lines.1
-          ∙ ap (map (aligned_line lines.0)) (rows.2 ∙ ap (λ (all : List (List (List ℕ))). all ++ rows.0) front),
+      lines ∙ ap aligned_lines (rows.2 ∙ ap (λ (all : List (List (List ℕ))). all ++ rows.0) front),
     )
