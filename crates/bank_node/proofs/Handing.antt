@@ -1,5 +1,5 @@
 -- What the node makes of an item.
-use Rattle.std.proofs.Common.{◌≡◌, ◌≢◌, ◌∙◌, ◌+◌, ◌++◌, ◌∷◌, [], ℕ, Bool, true, false, List, Option, Some, Result, Ok, Err, OnOk, ap, append_assoc, drop, refl, subst, sym, take}
+use Rattle.std.proofs.Common.{◌≡◌, ◌≢◌, ◌∙◌, ◌+◌, ◌++◌, ◌∷◌, [], ℕ, arith, inl, None, Bool, true, false, List, Option, Some, Result, Ok, Err, OnOk, ap, append_assoc, drop, refl, subst, sym, take}
 use Rattle.std.specs.Prelude.{IfSome, bytes_eq, codes, slice_get, if◌then◌else◌}
 use Rattle.std.proofs.lemmas.List.{map-append, take_more}
 use Rattle.std.proofs.lemmas.Slice.Eq.{bytes_eq-Decides}
@@ -7,24 +7,26 @@ use Rattle.std.proofs.lemmas.Option.{get_or_from_slice_get, slice_get_within}
 use Rattle.rows.specs.Versions.{newest}
 use Rattle.rows.specs.declared.refusal.Refusal.{Refusal}
 use Rattle.rows.specs.declared.refusal.Refusal.TheVariants as refusals
-use Rattle.fields_model.specs.Format.{◌>>=◌, Refuses, whole}
+use Rattle.fields_model.specs.Format.{◌>>=◌, IsBytes, Refuses, whole}
 use Rattle.fields_model.proofs.WholeTexts.{whole_only}
 use Rattle.machine_model.specs.Meaning.{Meaning, LawfulMachine}
 use Rattle.wire.specs.Frames.{Frame, sized}
-use Rattle.raft_model.specs.Rafts.{Raft}
+use Rattle.raft_model.specs.Rafts.{Raft, extended}
 use Rattle.raft_model.specs.Steps.{Beat, Compact, Propose, Timeout}
 use Rattle.raft_core.specs.Inputs.{Bytes, Handed, Own}
-use Rattle.raft_core.specs.RaftView.{RaftView, SameRaft}
-use Rattle.raft_core.specs.Refusals.{IsRefused, Stays}
+use Rattle.raft_core.specs.RaftView.{RaftView, SameNumber, SameRaft}
+use Rattle.raft_core.specs.Refusals.{IsRefused, Stays, refusal, refusal_by}
 use Rattle.raft_core.specs.Steps.{Represents, Takes}
 use Rattle.raft_core.specs.StoredParts.{KeepsLog, MayKeepLog}
 use Rattle.raft_core.specs.Tickets.{IsTicket, standing_of}
 use Rattle.raft_core.specs.declared.ticket.Standing.{Standing}
+use Rattle.raft_snapshot.specs.Bases.{Base}
 use Rattle.raft_snapshot.specs.Changes.{changed_part, log_change}
 use Rattle.raft_snapshot.specs.Stored.{Stored}
 use Rattle.raft_snapshot.specs.Texts.{front, stable_at, stable_text}
 use Rattle.raft_snapshot.proofs.TextLaws.{front_lawful}
 use Rattle.journal.specs.Events.{IoEvent, BytesSent, LineReported}
+use Rattle.process_lives.specs.Servers.{CoversAll}
 use Rattle.bank_node.specs.Inner.Before.{Remembers}
 use Rattle.bank_node.specs.Inner.Refusals.{is_memory}
 use Rattle.bank_node.specs.Items.{asked, input_of, is_proposal, is_question, ticket}
@@ -91,8 +93,20 @@ module _ {S C : Type 0} (m : Meaning S C) (item : List ℕ) where
   ticket_declined text view _ is behind why = absurd why
 
   module _ (text : List ℕ) (command : C) (old new : RaftView S C) (is : is_proposal item ≡ true) (behind : text ≡ drop 1 item) (read : whole (m.commands newest) text ≡ Ok command) where
-    proposal_taken : ((s : Raft C) (sent : List Frame) → Represents m old s → Takes m old s (Own (Propose command)) new sent sent) → IsTaken m item old new []
-    proposal_taken takes = record { handed = Own (Propose command); is = proposal_asks text (Ok command) is behind read; step = λ s r. takes s [] r }
+    proposal_taken : IsBytes item → SameNumber old new → (new.base ≡ old.base) × (new.server ≡ extended old.server command)
+        → ((s : Raft C) (sent : List Frame) → Represents m old s → Takes m old s (Own (Propose command)) new sent sent) → IsTaken m item old new []
+    proposal_taken bytes same shows takes = record {
+      bytes = bytes;
+      handed = Own (Propose command);
+      is = proposal_asks text (Ok command) is behind read;
+      step = λ s r. takes s [] r;
+      admitted = λ s r. ap refusal_by (takes s [] r (Propose command) refl).step;
+      same = same;
+      covers = λ covered.
+          let stays : new.server.covered ≡ old.server.covered = ap (λ (x : Raft C). x.covered) shows.1 in
+          let base : new.base.index ≡ old.base.index = ap (λ (b : Base S). b.index) shows.0 in
+          record { least = omega (arith, stays, base, covered); most = inl (omega (arith, stays, base, covered)) };
+    }
 
     pub proposal_declined : (cause : Refusal) → SameRaft old new → ((s : Raft C) → Represents m old s → IsRefused m old.size old.me s (Own (Propose command)) cause) → IsDeclined m item old new cause
     proposal_declined refusals.NoMemory same why = tt
@@ -102,9 +116,17 @@ module _ {S C : Type 0} (m : Meaning S C) (item : List ℕ) where
     asks : asked m item ≡ Ok h
     asks = other_asks is ∙ ap Ok (sym of)
 
-    step_taken : (before after : List Frame) → before ≡ [] → ((s : Raft C) → Represents m old s → Takes m old s h new before after) → IsTaken m item old new after
-    step_taken before after none takes =
-        record { handed = h; is = asks; step = λ s r. subst (λ l. Takes m old s h new l after) none (takes s r) }
+    step_taken : IsBytes item → (before after : List Frame) → before ≡ [] → ((s : Raft C) → Represents m old s → Takes m old s h new before after)
+        → ((s : Raft C) → Represents m old s → refusal m old.size old.me s h ≡ None) → SameNumber old new → CoversAll new → IsTaken m item old new after
+    step_taken bytes before after none takes admitted same covers = record {
+      bytes = bytes;
+      handed = h;
+      is = asks;
+      step = λ s r. subst (λ l. Takes m old s h new l after) none (takes s r);
+      admitted = admitted;
+      same = same;
+      covers = λ _. covers;
+    }
 
     pub step_declined : (cause : Refusal) → Stays h cause old new → ((s : Raft C) → Represents m old s → IsRefused m old.size old.me s h cause) → IsDeclined m item old new cause
     step_declined refusals.NoMemory same why = tt
@@ -144,19 +166,21 @@ module _ {S C : Type 0} (m : Meaning S C) (item : List ℕ) where
         (LineReported (refused_line reason cause) ∷ [], refused cause other p.0 lacks p.1 refl, put)
 
     pub proposed_made : (old new : RaftView S C) (text line : List ℕ) (command : C) (index term : ℕ) (before after : List IoEvent) → is_proposal item ≡ true → text ≡ drop 1 item
-        → whole (m.commands newest) text ≡ Ok command → ((s : Raft C) (sent : List Frame) → Represents m old s → Takes m old s (Own (Propose command)) new sent sent)
+        → whole (m.commands newest) text ≡ Ok command → IsBytes item → SameNumber old new → (new.base ≡ old.base) × (new.server ≡ extended old.server command)
+        → ((s : Raft C) (sent : List Frame) → Represents m old s → Takes m old s (Own (Propose command)) new sent sent)
         → ((s : Raft C) → Represents m new s → IsTicket s command index term) → line ≡ ticket_line index term → after ≡ before ++ LineReported line ∷ [] → Made old new before after
-    proposed_made old new text line command index term before after is behind read takes stands line_is put =
+    proposed_made old new text line command index term before after is behind read bytes same shows takes stands line_is put =
         let here = subst (λ t. whole (m.commands newest) t ≡ Ok command) behind read in (
           LineReported line ∷ [],
-          proposed command index term is here (proposal_taken text command old new is behind read takes) stands (ap (λ l. LineReported l ∷ []) line_is),
+          proposed command index term is here (proposal_taken text command old new is behind read bytes same shows takes) stands (ap (λ l. LineReported l ∷ []) line_is),
           put,
         )
 
     pub taken_made : (h : Handed C) (old new : RaftView S C) (none frames : List Frame) (before after : List IoEvent) → item ≢ codes "S" → is_proposal item ≡ false → is_question item ≡ false
-        → h ≡ input_of item → none ≡ [] → ((s : Raft C) → Represents m old s → Takes m old s h new none frames) → after ≡ before ++ sends frames → Made old new before after
-    taken_made h old new none frames before after other no_proposal no_question of empty takes put =
-        (sends frames, taken frames other no_proposal no_question (step_taken h old new no_proposal of none frames empty takes) refl, put)
+        → h ≡ input_of item → none ≡ [] → IsBytes item → ((s : Raft C) → Represents m old s → Takes m old s h new none frames)
+        → ((s : Raft C) → Represents m old s → refusal m old.size old.me s h ≡ None) → SameNumber old new → CoversAll new → after ≡ before ++ sends frames → Made old new before after
+    taken_made h old new none frames before after other no_proposal no_question of empty bytes takes admitted same covers put =
+        (sends frames, taken frames other no_proposal no_question (step_taken h old new no_proposal of bytes none frames empty takes admitted same covers) refl, put)
 
 -- of an item that is no Compact it is said how much of the log a step keeps
 kept_by : {S C : Type 0} (t b c : Bool) (item : List ℕ) (old new : RaftView S C) → c ≢ true

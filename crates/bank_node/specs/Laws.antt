@@ -1,2 +1,3 @@
 -- What impls of this crate cite.
 pub mod Outputs
+pub mod Lives

@@ -7,3 +7,5 @@ pub mod Reading
 pub mod Starts
 pub mod Inner
 pub mod Laws
+pub mod Lives
+pub mod Books

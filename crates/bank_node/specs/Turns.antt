@@ -1,18 +1,19 @@
 -- What a node makes of the items of its input.
-use Rattle.std.specs.Prelude.{◌≡◌, ◌≢◌, ⊤, ℕ, true, false, Option, List, [], ◌∷◌, map, codes, drop, Ok, Err}
+use Rattle.std.specs.Prelude.{◌≡◌, ◌≢◌, ⊤, ℕ, true, false, Option, None, List, [], ◌∷◌, map, codes, drop, Ok, Err}
 use Rattle.rows.specs.Versions.{newest}
 use Rattle.rows.specs.declared.refusal.Refusal.{Refusal}
 use Rattle.rows.specs.declared.refusal.Refusal.TheVariants as refusals
-use Rattle.fields_model.specs.Format.{whole}
+use Rattle.fields_model.specs.Format.{IsBytes, whole}
 use Rattle.machine_model.specs.Meaning.{Meaning}
 use Rattle.wire.specs.Frames.{Frame, sized}
 use Rattle.raft_model.specs.Rafts.{Raft}
 use Rattle.raft_core.specs.Inputs.{Handed}
-use Rattle.raft_core.specs.RaftView.{RaftView, SameRaft}
-use Rattle.raft_core.specs.Refusals.{IsRefused}
+use Rattle.raft_core.specs.RaftView.{RaftView, SameNumber, SameRaft}
+use Rattle.raft_core.specs.Refusals.{IsRefused, refusal}
 use Rattle.raft_core.specs.Steps.{Represents, Takes}
 use Rattle.raft_core.specs.Tickets.{IsTicket, standing_of}
 use Rattle.journal.specs.Events.{IoEvent, BytesSent, LineReported}
+use Rattle.process_lives.specs.Servers.{CoversAll}
 use Rattle.bank_node.specs.Items.{asked, ticket, is_proposal, is_question}
 use Rattle.bank_node.specs.Lines.{Shows, refused_line, ticket_line, standing_line, standing_word}
 
@@ -21,11 +22,16 @@ abbrev pub sends : List Frame → List IoEvent
 sends frames = map (λ (frame : Frame). BytesSent (sized frame.bytes)) frames
 
 module _ {S C : Type 0} (m : Meaning S C) where
-  -- the server takes what the item asks, and these are the frames that it sends
+  -- The server takes what the item asks, which it does not refuse, and these are the frames that it
+  -- sends. It keeps its number, and what its snapshot covers is what it has no entries of.
   pub record IsTaken (item : List ℕ) (old new : RaftView S C) (frames : List Frame) : Type 0 where
+    pub bytes : IsBytes item
     pub handed : Handed C
     pub is : asked m item ≡ Ok handed
     pub step : (s : Raft C) → Represents m old s → Takes m old s handed new [] frames
+    pub admitted : (s : Raft C) → Represents m old s → refusal m old.size old.me s handed ≡ None
+    pub same : SameNumber old new
+    pub covers : old.server.covered ≡ old.base.index → CoversAll new
 
   -- why an item is refused: the command of a proposal or the ticket of a question is at fault, or
   -- the server refuses what it asks

@@ -3,15 +3,20 @@
 //! file before a frame that tells of it leaves.
 #![tactic(auto)]
 
+ghost use Rattle.std.specs.Prelude.{◌≡◌, IfOk};
+ghost use Rattle.bank_node.specs.Lives.{header_text};
+
 mod delta;
 mod fault;
+mod law;
 mod lines;
 mod node;
 mod start;
 
 use bank::Bank;
 use fault::Fault;
-use journal::{Host, MAGIC, serve};
+use journal::{Host, MAGIC};
+use law::live;
 use node::Node;
 use rows::{NoMemory, ServerId};
 use start::begin;
@@ -38,7 +43,9 @@ fn words_of(rt: &HostRuntime) -> Result<Vec<String>, Fault> {
 }
 
 /// The first line of a server's journal.
-fn header_of(alloc: Global, me: ServerId, size: usize) -> Result<Vec<u8>, NoMemory> {
+fn header_of(alloc: Global, me: ServerId, size: usize) -> Result<Vec<u8>, NoMemory>
+    ensures { IfOk result (λ header. header.items ≡ header_text size me) }
+{
     let mut header = Vec::new(alloc);
     header.extend_from_slice(MAGIC)?;
     match writeln!(header, "1 bank_node {me} of {size}") {
@@ -67,7 +74,7 @@ fn run(rt: &HostRuntime) -> Result<(), Fault> {
         stored.as_ref().map(|text| text.as_slice()),
     )?;
     let mut node = Node::new(server);
-    serve(alloc, &mut node, &mut host)?;
+    live(alloc, &mut node, &mut host)?;
     Ok(())
 }
 

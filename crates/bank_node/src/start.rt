@@ -7,6 +7,7 @@ ghost use Rattle.raft_snapshot.specs.Texts.{front};
 ghost use Rattle.raft_core.specs.Steps.{IsGroupMember, Represents, Stores};
 ghost use Rattle.raft_core.specs.StoredParts.{stored_part};
 ghost use Rattle.raft_model.specs.Rafts.{Raft as AnyRaft, restarted};
+ghost use Rattle.bank_node.specs.Lives.{BeginsWith, header_text};
 ghost use Rattle.bank_node.specs.Records.{raft_replay};
 ghost use Rattle.bank_node.specs.Starts.{FaultAt, IsBadStore, IsStored, ReplaysTo};
 ghost use Rattle.bank_node.specs.Statuses.{is_of_beginning};
@@ -29,11 +30,14 @@ pub fn begin<M: Machine>(
     header: &[u8],
     stored: Option<&[u8]>,
 ) -> Result<Raft<M>, Fault>
+    ensures member { OnOk result (IsGroupMember size me) }
     ensures place { IfOk result (λ server. (server.me ≡ me) × (server.size ≡ size)) }
     ensures stored { IfOk result (λ server. IsStored M.meaning header.now
         (option_map (λ text. text.now) stored.entry) (stored_part server)) }
     ensures server { IfOk result (λ server. (s : AnyRaft M.Command) →
         Stores M.meaning (stored_part server) s → Represents M.meaning server (restarted s)) }
+    ensures begins { IfOk result (λ server. header.now ≡ header_text size me →
+        BeginsWith M.meaning size me (option_map (λ text. text.now) stored.entry) server) }
     ensures usage { IfErr result (λ fault. fault ≡ faults.Usage → IsGroupMember size me → ⊥) }
     ensures fault { IfErr result (λ fault. (place : ℕ) → fault ≡ faults.BadStore place →
         IsBadStore M.meaning header.now (option_map (λ text. text.now) stored.entry) place) }

@@ -1,4 +1,4 @@
-use Rattle.std.proofs.Common.{◌≡◌, ◌∙◌, ap, map, subst}
+use Rattle.std.proofs.Common.{◌≡◌, ◌∙◌, ap, arith, map, subst}
 use Rattle.std.proofs.lemmas.Result.{on_ok_weaker}
 use Rattle.journal.specs.Savings.{output_event}
 use Rattle.bank_node.specs.Lines.{ticket_line}
@@ -37,7 +37,7 @@ returns-clause-turn g c =
           let after = map output_event w.put_line.new.outs.items in
           let made = on_ok_weaker w.put_line.result
           (λ put. subst (λ v. Made m item words reason v new before after) c.self.view_is
-          (proposed_made m item words reason old new text line command at.index at.term before after c.requires.is c.behind_first.ensures c.in-Ok.ensures w.in-Ok-propose.ensures.taken
+          (proposed_made m item words reason old new text line command at.index at.term before after c.requires.is c.behind_first.ensures c.in-Ok.ensures (λ i. omega (arith, c.type_inv.item i)) w.in-Ok-propose.ensures.same w.in-Ok-propose.ensures.shown w.in-Ok-propose.ensures.taken
           w.in-Ok-propose.ensures.ticket line_is put))
           w.put_line.ensures in
           rw (w.result-is, w.outs-is) made

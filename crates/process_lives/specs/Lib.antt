@@ -1,0 +1,3 @@
+pub mod Lives
+pub mod Joined
+pub mod Servers

@@ -1,0 +1,7 @@
+//! What processes did that run the loop of `journal` and were killed at any moment: they are those
+//! of `processes`.
+#![tactic(auto)]
+
+mod laws;
+
+pub use laws::{ServerProcess, lives_keep_one_list};
