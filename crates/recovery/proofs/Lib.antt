@@ -1,0 +1,11 @@
+pub mod Swaps
+pub mod Spreads
+pub mod Rounding
+pub mod Ways
+pub mod Rises
+pub mod Turns
+pub mod Finishes
+pub mod Goings
+pub mod Looks
+pub mod Picks
+pub mod Driving

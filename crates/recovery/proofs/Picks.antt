@@ -1,0 +1,211 @@
+-- Whether a quorum is up, whether there is room, and who has the best log.
+use Rattle.std.proofs.Common.{◌≡◌, ℕ, suc, ◌+◌, ◌*◌, ◌<◌, ◌≤◌, inl, inr, Bool, true, false, not, MatchBool, ◌&&◌, ◌==◌, nat_lt, if◌then◌else◌, Option, Some, None, List, length, refl, sym, ap, ◌∙◌, subst, arith, slice_get, true≢false}
+use Rattle.std.proofs.lemmas.Bool.{lt-ltb, eq-eqb, ltb-true, ltb-false, eqb-true, and_from, and_parts, or_left, or_right}
+use Rattle.std.proofs.lemmas.Bool.Decides.{leb_tells}
+use Rattle.std.proofs.lemmas.Option.{same_Some}
+use Rattle.machine_model.specs.Meaning.{Meaning}
+use Rattle.machine_model.specs.declared.entry.Entry.{Entry}
+use Rattle.raft_model.specs.Logs.{MAX, last_term}
+use Rattle.raft_model.specs.Quorums.{count, Quorum}
+use Rattle.raft_model.specs.Rafts.{Raft, is_up}
+use Rattle.raft_model.specs.Worlds.{World}
+use Rattle.raft_safety.proofs.QuietSteps.{or_either}
+use Rattle.raft_safety.proofs.Places.{get-within}
+use Rattle.raft_model.proofs.Cases.{bool_cases}
+use Rattle.raft_core.specs.RaftView.{RaftView}
+use Rattle.raft_core.specs.Steps.{Represents}
+use Rattle.raft_progress.proofs.Choosing.{NoOlder, no_older, older_self, older_trans}
+use Rattle.raft_progress.proofs.Settling.{count_none}
+use Rattle.world.specs.WorldView.{WorldView, RunsTo}
+use Rattle.world.proofs.Zips.{zip_length}
+use Rattle.recovery.specs.Runs.{is_up_in}
+use Rattle.recovery.specs.Settling.{InRuns, HasQuorum, LacksQuorum, UpHaveRoom, UpLackRoom}
+use Rattle.recovery.specs.Inner.Spreads.{IsBest, Chosen}
+use Rattle.recovery.specs.Inner.Goings.{Known, IsFull, HasPlace, is_older_log, IsOlder, IsBetter}
+use Rattle.recovery.proofs.Spreads.{up_is, is_up_at}
+use Rattle.recovery.proofs.Looks.{there, read, read_each, UpAre}
+
+-- ---- counts
+
+pub count_up : (f : ℕ → Bool) (k : ℕ) → f k ≡ true → count f (k + 1) ≡ count f k + 1
+unfolding count
+count_up f k h = let e : k + 1 ≡ suc k = omega arith in ap (count f) e ∙ (let z : (if f k then 1 else 0) + count f k ≡ count f k + 1 = rw h (omega arith) in z)
+
+pub count_down : (f : ℕ → Bool) (k : ℕ) → f k ≡ false → count f (k + 1) ≡ count f k
+unfolding count
+count_down f k h = let e : k + 1 ≡ suc k = omega arith in ap (count f) e ∙ (let z : (if f k then 1 else 0) + count f k ≡ count f k = rw h (omega arith) in z)
+
+pub count_nobody : (f : ℕ → Bool) → count f 0 ≡ 0
+unfolding count
+count_nobody f = refl
+
+no_quorum : (n : ℕ) (Q : ℕ → Bool) → Quorum n Q → ((j : ℕ) → j < n → Q j ≡ true → ⊥) → ⊥
+unfolding Quorum
+no_quorum n Q q none = omega (arith, q, count_none n Q none)
+
+quorum_is : (n all up : ℕ) (f : ℕ → Bool) → all ≡ n → up ≡ count f all → all < 2 * up → Quorum n f
+unfolding Quorum
+quorum_is n all up f e c less = omega (arith, e, ap (λ k. count f k) e, c, less)
+
+quorum_is_not : (n all up : ℕ) (f : ℕ → Bool) → all ≡ n → up ≡ count f all → (all < 2 * up → ⊥) → Quorum n f → ⊥
+unfolding Quorum
+quorum_is_not n all up f e c not q = not (omega (arith, e, ap (λ k. count f k) e, c, q))
+
+-- ---- logs
+
+module _ {C : Type 0} where
+  older_true : (X Y : List (Entry C)) → is_older_log X Y ≡ true → NoOlder X Y
+  older_true X Y h = elim (or_either (nat_lt (last_term X) (last_term Y)) ((last_term X == last_term Y) && nat_lt (length X) (length Y)) h) [
+    | inl a ↦ no_older X Y (inl (ltb-true (last_term X) (last_term Y) a))
+    | inr b ↦
+        let c = and_parts (last_term X == last_term Y) (nat_lt (length X) (length Y)) b in
+        no_older X Y (inr (eqb-true (last_term X) (last_term Y) c.0, omega (arith, ltb-true (length X) (length Y) c.1)))
+  ]
+
+  older_false : (X Y : List (Entry C)) → is_older_log X Y ≡ false → NoOlder Y X
+  older_false X Y h = elim (leb_tells (suc (last_term X)) (last_term Y)) [
+    | inl e ↦ absurd (true≢false (sym (or_left (nat_lt (last_term X) (last_term Y)) ((last_term X == last_term Y) && nat_lt (length X) (length Y)) (lt-ltb (last_term X) (last_term Y) e.1)) ∙ h))
+    | inr e ↦ elim (leb_tells (suc (last_term Y)) (last_term X)) [
+      | inl f ↦ no_older Y X (inl f.1)
+      | inr f ↦ elim (leb_tells (suc (length X)) (length Y)) [
+        | inl g ↦ absurd (true≢false (sym (or_right (nat_lt (last_term X) (last_term Y)) ((last_term X == last_term Y) && nat_lt (length X) (length Y))
+            (and_from (last_term X == last_term Y) (nat_lt (length X) (length Y)) (eq-eqb (last_term X) (last_term Y) (omega (arith, e.1, f.1))) (lt-ltb (length X) (length Y) g.1))) ∙ h))
+        | inr g ↦ no_older Y X (inr (omega (arith, e.1, f.1), omega (arith, g.1)))
+      ]
+    ]
+  ]
+
+-- a server that is up is full, or has room
+pub full_raft : {C : Type 0} (s : Raft C) (b : Bool) → is_up s.mode ≡ true → MatchBool b ((s.term + 2 ≤ MAX) × (length s.log + 2 ≤ MAX)) ((s.term + 2 ≤ MAX) × (length s.log + 2 ≤ MAX) → ⊥) →
+    MatchBool (not b) ((is_up s.mode ≡ true) × ((s.term + 2 ≤ MAX) × (length s.log + 2 ≤ MAX) → ⊥)) (is_up s.mode ≡ true → (s.term + 2 ≤ MAX) × (length s.log + 2 ≤ MAX))
+full_raft s true up h = λ alive. h
+full_raft s false up h = (up, h)
+
+module _ {S C : Type 0} (m : Meaning S C) (view : WorldView S C) where
+  -- ---- the quorum
+
+  abbrev pub CountIs : ℕ → ℕ → World C → Type 0
+  CountIs up k w = up ≡ count (is_up_in w) k
+
+  pub count_start : InRuns m view (λ w. CountIs 0 0 w)
+  count_start past w r = sym (count_nobody (is_up_in w))
+
+  module _ (up k j : ℕ) (b : Bool) (same : j ≡ k) (old : InRuns m view (λ w. CountIs up k w)) (one : InRuns m view (λ w. b ≡ is_up_in w j)) where
+    pub count_one : b ≡ true → InRuns m view (λ w. CountIs (up + 1) (k + 1) w)
+    count_one is past w r = let e = count_up (is_up_in w) k (ap (is_up_in w) (sym same) ∙ (sym (one past w r) ∙ is)) in omega (arith, e, old past w r)
+
+    pub count_none_here : b ≡ false → InRuns m view (λ w. CountIs up (k + 1) w)
+    count_none_here is past w r = let e = count_down (is_up_in w) k (ap (is_up_in w) (sym same) ∙ (sym (one past w r) ∙ is)) in omega (arith, e, old past w r)
+
+  pub quorum_told : (all up : ℕ) → all ≡ length view.servers → InRuns m view (λ w. CountIs up all w) → all < 2 * up → HasQuorum m view
+  quorum_told all up e c less past w r = quorum_is (length view.servers) all up (is_up_in w) e (c past w r) less
+
+  pub quorum_lacks : (all up : ℕ) → all ≡ length view.servers → InRuns m view (λ w. CountIs up all w) → (all < 2 * up → ⊥) → LacksQuorum m view
+  quorum_lacks all up e c not past w r = quorum_is_not (length view.servers) all up (is_up_in w) e (c past w r) not
+
+  pub quorum_match : (all up : ℕ) → all ≡ length view.servers → InRuns m view (λ w. CountIs up all w) → MatchBool (nat_lt all (2 * up)) (HasQuorum m view) (LacksQuorum m view)
+  quorum_match all up e c = elim (bool_cases (nat_lt all (2 * up))) [
+    | inl b ↦ rw b (quorum_told all up e c (ltb-true all (2 * up) b))
+    | inr b ↦ rw b (quorum_lacks all up e c (λ less. omega (arith, less, ltb-false all (2 * up) b)))
+  ]
+
+  -- ---- room
+
+  abbrev pub Roomy : Raft C → Type 0
+  Roomy s = (s.term + 2 ≤ MAX) × (length s.log + 2 ≤ MAX)
+
+  -- it has room, if it is up
+  abbrev pub Takes : Raft C → Type 0
+  Takes s = is_up s.mode ≡ true → Roomy s
+
+  pub full_read : (k : ℕ) (h : RaftView S C) → slice_get view.servers k ≡ Some h → (b : Bool) → ((s : Raft C) → Represents m h s → MatchBool b ((is_up s.mode ≡ true) × (Roomy s → ⊥)) (Takes s)) →
+      MatchBool b (InRuns m view (λ w. IsFull k w)) (InRuns m view (λ w. HasPlace k w))
+  full_read k h here true says = λ past w r. let z = read m view k h (λ s. (is_up s.mode ≡ true) × (Roomy s → ⊥)) here says past w r in (z.0, z.1, z.2.0, z.2.1)
+  full_read k h here false says = read_each m view k h Takes here says
+
+  pub older_read : (j k : ℕ) (a b : RaftView S C) → slice_get view.servers j ≡ Some a → slice_get view.servers k ≡ Some b → (older : Bool) → ((s t : Raft C) → Represents m a s → Represents m b t → older ≡ is_older_log s.log t.log) → InRuns m view (λ w. IsOlder j k older w)
+  older_read j k a b one two older says past w r s t at there2 =
+      says s t (read_each m view j a (λ q. Represents m a q) one (λ q z. z) past w r s at) (read_each m view k b (λ q. Represents m b q) two (λ q z. z) past w r t there2)
+
+  pub room_told : (k : ℕ) → length view.servers ≤ k → InRuns m view (λ w. UpAre m view Roomy k w) → UpHaveRoom m view
+  room_told k all old past w r j s less up at = old past w r j s (omega (arith, less, all)) at (up_is w j s at up)
+
+  pub room_lacks : (j : ℕ) → InRuns m view (λ w. IsFull j w) → UpLackRoom m view
+  room_lacks j full past w r room =
+      let f = full past w r in
+      let st = r.represents in
+      f.3 (room j f.0 (omega (arith, get-within w.servers j f.0 f.1, zip_length (Represents m) view.servers w.servers st.servers)) (is_up_at w j f.0 f.1 f.2) f.1)
+
+  -- ---- the best log
+
+  pub record BestSoFar (b k : ℕ) (w : World C) : Type 0 where
+    pub less : b < length view.servers
+    pub up : is_up_in w b ≡ true
+    pub below : (j : ℕ) (s z : Raft C) → j < k → is_up_in w j ≡ true → slice_get w.servers j ≡ Some s → slice_get w.servers b ≡ Some z → NoOlder s.log z.log
+
+  abbrev pub BestBelow : Option ℕ → ℕ → World C → Type 0
+  BestBelow None k w = (j : ℕ) → j < k → is_up_in w j ≡ false
+  BestBelow (Some b) k w = BestSoFar b k w
+
+  pub best_start : InRuns m view (λ w. BestBelow None 0 w)
+  best_start past w r j less = absurd (omega (arith, less))
+
+  module _ (k next : ℕ) (same : next ≡ k) (less_next : next < length view.servers) (past : List (World C)) (w : World C) (r : RunsTo m view past w) where
+    -- the next one is the best
+    next_best : is_up_in w next ≡ true → ((j : ℕ) (s z : Raft C) → j < k → is_up_in w j ≡ true → slice_get w.servers j ≡ Some s → slice_get w.servers next ≡ Some z → NoOlder s.log z.log) → BestSoFar next (k + 1) w
+    next_best up f = record {
+      less = less_next;
+      up = up;
+      below = λ j s z lo upj at there. elim (leb_tells (suc j) k) [
+        | inl e ↦ f j s z e.1 upj at there
+        | inr e ↦ let is : j ≡ next = omega (arith, lo, e.1, same) in subst (λ (q : Raft C). NoOlder s.log q.log) (same_Some s z (sym at ∙ (ap (slice_get w.servers) is ∙ there))) (older_self s.log)
+      ];
+    }
+
+    -- the old one stays
+    old_best : (b : ℕ) → BestSoFar b k w → ((s z : Raft C) → is_up_in w next ≡ true → slice_get w.servers next ≡ Some s → slice_get w.servers b ≡ Some z → NoOlder s.log z.log) → BestSoFar b (k + 1) w
+    old_best b a f = record {
+      less = a.less;
+      up = a.up;
+      below = λ j s z lo upj at there. elim (leb_tells (suc j) k) [
+        | inl e ↦ a.below j s z e.1 upj at there
+        | inr e ↦ let is : next ≡ j = omega (arith, lo, e.1, same) in f s z (ap (is_up_in w) is ∙ upj) (ap (slice_get w.servers) is ∙ at) there
+      ];
+    }
+
+    best_next : (b after : Option ℕ) → BestBelow b k w → IsBetter b next after w → BestBelow after (k + 1) w
+    best_next None None old h = λ j lo. elim (leb_tells (suc j) k) [
+      | inl e ↦ old j e.1
+      | inr e ↦ let is : j ≡ next = omega (arith, lo, e.1, same) in ap (is_up_in w) is ∙ h
+    ]
+    best_next None (Some q) old h = subst (λ z. BestSoFar z (k + 1) w) (sym h.0) (next_best h.1 (λ j s z lo up at there. absurd (true≢false (sym up ∙ old j lo))))
+    best_next (Some b) None old h = absurd h
+    best_next (Some b) (Some q) old (inl h) = subst (λ z. BestSoFar z (k + 1) w) (sym h.0) (old_best b old (λ s z up at after. absurd (true≢false (sym up ∙ h.1))))
+    best_next (Some b) (Some q) old (inr h) = subst (λ z. BestSoFar z (k + 1) w) (sym h.3) (by h.1 h.2)
+      where
+        by : (older : Bool) → IsOlder b next older w → BestSoFar (if older then next else b) (k + 1) w
+        by true is = next_best h.0 (λ j s z lo up at after.
+            let t = there m view b old.less past w r in
+            older_trans s.log (t.0).log z.log (old.below j s t.0 lo up at t.1) (older_true (t.0).log z.log (sym (is t.0 z t.1 after))))
+        by false is = old_best b old (λ s z up at after. older_false z.log s.log (sym (is z s after at)))
+
+  pub best_more : (k next : ℕ) → next ≡ k → next < length view.servers → (b after : Option ℕ) → InRuns m view (λ w. BestBelow b k w) → InRuns m view (λ w. IsBetter b next after w) → InRuns m view (λ w. BestBelow after (k + 1) w)
+  best_more k next same less b after old one past w r = best_next k next same less past w r b after (old past w r) (one past w r)
+
+  pub best_all : (b k : ℕ) → length view.servers ≤ k → InRuns m view (λ w. BestBelow (Some b) k w) → InRuns m view (λ w. IsBest (length view.servers) b w)
+  best_all b k all old past w r =
+      let a = old past w r in
+      record { less = a.less; up = a.up; best = λ j s me less up at there. a.below j s me (omega (arith, less, all)) up at there }
+
+  -- somebody is up
+  pub best_some : (k : ℕ) → length view.servers ≤ k → Known m view (λ w. Quorum (length view.servers) (is_up_in w)) → InRuns m view (λ w. BestBelow None k w) → ⊥
+  best_some k all q old = no_quorum (length view.servers) (is_up_in q.world) (q.ever q.past q.world q.runs) (λ j less up. true≢false (sym up ∙ old q.past q.world q.runs j (omega (arith, less, all))))
+
+  -- and so the best may be let stand
+  pub chosen : (who : ℕ) → (past : List (World C)) (w : World C) → RunsTo m view past w → HasQuorum m view → UpHaveRoom m view → InRuns m view (λ w. IsBest (length view.servers) who w) → Known m view (λ w. Chosen (length view.servers) who w)
+  chosen who past w r quorum room best = record {
+    past = past;
+    world = w;
+    runs = r;
+    ever = λ p v q. let b = best p v q in record { less = b.less; up = b.up; quorum = quorum p v q; best = b.best; room = room p v q };
+  }

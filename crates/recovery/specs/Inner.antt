@@ -1,0 +1,3 @@
+-- Words of private contracts.
+pub mod Spreads
+pub mod Goings

@@ -1,0 +1,3 @@
+pub mod Runs
+pub mod Settling
+pub mod Inner

@@ -1,0 +1,14 @@
+use rows::ServerId;
+
+/// Why a group was not settled.
+#[derive(Clone, Copy, Debug, PartialEq, Eq)]
+pub enum Unsettled {
+    /// No quorum of its servers is up. Nothing happened.
+    NoQuorum,
+    /// A server that is up has no room for two more terms or two more entries. Nothing happened.
+    Exhausted,
+    /// Memory was wanting, and no server crashed for it. The events in the trace happened.
+    NoMemory,
+    /// This server found no memory, and is down. The events before its crash happened.
+    Crashed(ServerId),
+}
