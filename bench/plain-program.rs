@@ -1,17 +1,20 @@
-//! A plain program of the same rules as `nomadsim run FILE`, for groups without clients whose log
-//! holds no-ops alone: what a message costs is measured beside it (bench/README.md). Nothing here is
-//! proved. `rustc -O --edition 2024 bench/plain-program.rs -o plain`, and then `plain run FILE`.
+//! A plain program of the same rules as `nomadsim run FILE`, for servers alone: what a message and
+//! what a command costs is measured beside it (bench/README.md). Nothing here is proved.
+//! `rustc -O --edition 2024 bench/plain-program.rs -o plain`, and then `plain run FILE`.
 //!
 //! It reads the same files, writes and reads the same frames with the same checks, keeps each frame
-//! and each event, and prints the same lines. It has no clients, no desk, no workers, no commands
-//! but a leader's first, and of the steps only `flow`, `deliver`, `timeout`, `beat`, `crash` and
-//! `restart`.
+//! and each event, and prints the same lines of servers and of events. It has no clients, no desk,
+//! no workers, and of the steps only `flow`, `deliver`, `timeout`, `beat`, `crash`, `restart`,
+//! `register`, `request S put` and `request S drain`. A `register` proposes at once, without a
+//! message. A command is weighed by what the leader has applied, not by its whole log. The state
+//! stands in two hash maps and one of nodes, without forks and snapshots.
 
-use std::collections::VecDeque;
+use std::collections::{HashMap, VecDeque};
 use std::env;
 use std::fs;
 use std::io::{self, Write};
 use std::process::ExitCode;
+use std::rc::Rc;
 
 // ---- Scenario files: JSON ----
 
@@ -23,6 +26,7 @@ enum Order {
 
 struct Scenario {
     servers: usize,
+    nodes: Vec<Rc<Node>>,
     key: u64,
     drop: u8,
     repeat: u8,
@@ -166,6 +170,44 @@ impl<'a> Json<'a> {
         }
     }
 
+    /// An object of a node.
+    fn node(&mut self) -> Result<Node, BadScenario> {
+        let (mut class, mut sizes) = (None, [None, None, None]);
+        self.expect(b'{')?;
+        let mut is_first = true;
+        while self.goes_on(is_first, b'}')? {
+            is_first = false;
+            let name = self.string()?;
+            self.expect(b':')?;
+            match name.as_str() {
+                "class" => put(&mut class, self.string()?)?,
+                "cpu" => put(&mut sizes[0], self.number()?)?,
+                "mem" => put(&mut sizes[1], self.number()?)?,
+                "disk" => put(&mut sizes[2], self.number()?)?,
+                _ => return Err(BadScenario),
+            }
+        }
+        let class = class.filter(|it| is_name(it)).ok_or(BadScenario)?;
+        let [Some(cpu), Some(memory), disk] = sizes else {
+            return Err(BadScenario);
+        };
+        let size = size_of([cpu, memory, disk.unwrap_or(0)]).ok_or(BadScenario)?;
+        Ok(Node {
+            class,
+            size,
+            drains: None,
+        })
+    }
+
+    fn nodes(&mut self) -> Result<Vec<Rc<Node>>, BadScenario> {
+        self.expect(b'[')?;
+        let mut list = Vec::new();
+        while self.goes_on(list.is_empty(), b']')? {
+            list.push(Rc::new(self.node()?));
+        }
+        Ok(list)
+    }
+
     fn strings(&mut self) -> Result<Vec<String>, BadScenario> {
         self.expect(b'[')?;
         let mut list = Vec::new();
@@ -191,8 +233,7 @@ fn percent(number: u64) -> Result<u8, BadScenario> {
     }
 }
 
-/// Reads a scenario: an object of exactly the seven keys, none twice. Groups have no clients here,
-/// so the list of nodes must be empty.
+/// Reads a scenario: an object of exactly the seven keys, none twice.
 fn read_scenario(text: &str) -> Result<Scenario, BadScenario> {
     let mut json = Json {
         bytes: text.as_bytes(),
@@ -208,7 +249,7 @@ fn read_scenario(text: &str) -> Result<Scenario, BadScenario> {
         json.expect(b':')?;
         match name.as_str() {
             "servers" => put(&mut servers, json.number()?)?,
-            "nodes" => put(&mut nodes, json.strings()?)?,
+            "nodes" => put(&mut nodes, json.nodes()?)?,
             "key" => put(&mut key, json.number()?)?,
             "drop" => put(&mut drop, percent(json.number()?)?)?,
             "repeat" => put(&mut repeat, percent(json.number()?)?)?,
@@ -217,7 +258,7 @@ fn read_scenario(text: &str) -> Result<Scenario, BadScenario> {
             _ => return Err(BadScenario),
         }
     }
-    if json.peek().is_some() || !nodes.ok_or(BadScenario)?.is_empty() {
+    if json.peek().is_some() {
         return Err(BadScenario);
     }
     let order = match order.as_deref() {
@@ -236,6 +277,7 @@ fn read_scenario(text: &str) -> Result<Scenario, BadScenario> {
     }
     Ok(Scenario {
         servers,
+        nodes: nodes.filter(|it| it.len() <= 64).ok_or(BadScenario)?,
         key: key.ok_or(BadScenario)?,
         drop,
         repeat,
@@ -271,6 +313,9 @@ enum Input {
 enum Event {
     Deliver(u64),
     Server(ServerId, Input),
+    Register(u8, ServerId),
+    /// The command at a place of the scenario's.
+    Propose(ServerId, usize),
 }
 
 enum Step {
@@ -289,7 +334,75 @@ fn read_server(word: &str) -> Option<ServerId> {
     ServerId::from_number(u8::try_from(read_number(word)?).ok()?)
 }
 
-fn read_step(line: &str) -> Option<Step> {
+fn is_name(word: &str) -> bool {
+    let is_part = |it: u8| matches!(it, b'a'..=b'z' | b'0'..=b'9' | b'-');
+    (1..=32).contains(&word.len()) && word.bytes().all(is_part)
+}
+
+/// Processor time, memory and disk.
+fn size_of(numbers: [u64; 3]) -> Option<[u32; 3]> {
+    let [cpu, memory, disk] = numbers;
+    let fits = cpu > 0 && memory > 0 && cpu.max(memory).max(disk) <= 1_000_000;
+    fits.then_some(numbers.map(|it| it as u32))
+}
+
+fn read_group(word: &str) -> Option<Group> {
+    let mut parts = word.split(':');
+    let name = parts.next().filter(|it| is_name(it))?;
+    let count = read_number(parts.next()?).filter(|it| *it <= 64)? as u8;
+    let class = parts.next().filter(|it| is_name(it))?;
+    let mut number = || read_number(parts.next()?);
+    let size = size_of([number()?, number()?, number()?])?;
+    parts.next().is_none().then(|| Group {
+        name: name.to_string(),
+        count,
+        class: class.to_string(),
+        size,
+    })
+}
+
+fn read_job<'a>(mut words: impl Iterator<Item = &'a str>) -> Option<Job> {
+    let name = words.next().filter(|it| is_name(it))?.to_string();
+    let priority = read_number(words.next()?).filter(|it| (1..=100).contains(it))? as u8;
+    let mut groups: Vec<Group> = Vec::new();
+    for word in words.next()?.split(',') {
+        let group = read_group(word)?;
+        if groups.len() == 8 || groups.iter().any(|it| it.name == group.name) {
+            return None;
+        }
+        groups.push(group);
+    }
+    words.next().is_none().then_some(Job {
+        name,
+        priority,
+        groups,
+    })
+}
+
+fn read_node(word: &str) -> Option<u8> {
+    let number = read_number(word)?;
+    (1..=64).contains(&number).then_some(number as u8)
+}
+
+/// What is asked for behind `request S`.
+fn read_command(mut words: std::str::Split<'_, char>) -> Option<Command> {
+    match words.next()? {
+        "put" => Some(Command::JobPut(Rc::new(read_job(words)?))),
+        "drain" => {
+            let node = read_node(words.next()?)?;
+            let force = match words.next()? {
+                "slow" => false,
+                "force" => true,
+                _ => return None,
+            };
+            words.next().is_none().then_some(Command::Drain(node, force))
+        }
+        _ => None,
+    }
+}
+
+/// The step of a line. A command is put behind the others, and its event says where it stands.
+fn read_step(line: &str, commands: &mut Vec<Command>) -> Option<Step> {
     if line == "flow" {
         return Some(Step::Flow(None));
     }
@@ -305,6 +418,16 @@ fn read_step(line: &str) -> Option<Step> {
         "beat" => server(Input::Beat),
         "crash" => server(Input::Crash),
         "restart" => server(Input::Restart),
+        "register" => {
+            let (client, server) = word.split_once(' ')?;
+            Some(Step::Event(Event::Register(read_node(client)?, read_server(server)?)))
+        }
+        "request" => {
+            let mut words = word.split(' ');
+            let server = read_server(words.next()?)?;
+            commands.push(read_command(words)?);
+            Some(Step::Event(Event::Propose(server, commands.len() - 1)))
+        }
         _ => None,
     }
 }
@@ -316,12 +439,37 @@ const VERSION: u8 = 3;
 const MOST_ENTRIES: usize = 32;
 const FRAME_LIMIT: usize = 16_777_216;
 
-#[derive(Clone, Copy)]
-enum Command {
-    Noop,
+/// A group of a job: its name, how many are to run, on nodes of which class, of which size.
+struct Group {
+    name: String,
+    count: u8,
+    class: String,
+    size: [u32; 3],
 }
 
-#[derive(Clone, Copy)]
+struct Job {
+    name: String,
+    priority: u8,
+    groups: Vec<Group>,
+}
+
+#[derive(Clone)]
+struct Node {
+    class: String,
+    size: [u32; 3],
+    /// Whether it is drained by force.
+    drains: Option<bool>,
+}
+
+#[derive(Clone)]
+enum Command {
+    Noop,
+    JobPut(Rc<Job>),
+    NodePut(u8, Rc<Node>),
+    Drain(u8, bool),
+}
+
+#[derive(Clone)]
 struct Entry {
     term: u64,
     command: Command,
@@ -397,11 +545,45 @@ impl Frames {
         self.bytes.push(entries.len() as u8);
         for entry in entries {
             self.number(entry.term);
-            match entry.command {
-                Command::Noop => self.bytes.push(0),
-            }
+            self.command(&entry.command);
         }
         self.end(to, size_at);
+    }
+
+    fn name(&mut self, name: &str) {
+        self.bytes.push(name.len() as u8);
+        self.bytes.extend_from_slice(name.as_bytes());
+    }
+
+    fn size(&mut self, size: &[u32; 3]) {
+        for number in size {
+            self.bytes.extend_from_slice(&number.to_be_bytes());
+        }
+    }
+
+    fn command(&mut self, command: &Command) {
+        match command {
+            Command::Noop => self.bytes.push(0),
+            Command::JobPut(job) => {
+                self.bytes.push(1);
+                self.name(&job.name);
+                self.bytes.extend_from_slice(&[job.priority, job.groups.len() as u8]);
+                for group in &job.groups {
+                    self.name(&group.name);
+                    self.bytes.push(group.count);
+                    self.name(&group.class);
+                    self.size(&group.size);
+                }
+            }
+            Command::NodePut(number, node) => {
+                self.bytes.extend_from_slice(&[3, *number]);
+                self.name(&node.class);
+                self.size(&node.size);
+            }
+            Command::Drain(number, force) => {
+                self.bytes.extend_from_slice(&[5, *number, u8::from(*force)]);
+            }
+        }
     }
 
     fn send(&mut self, message: &Message) {
@@ -466,7 +648,10 @@ impl Frames {
 
 #[derive(Clone, Copy, PartialEq, Eq, Debug)]
 enum Refusal {
+    NotLeader,
+    UnknownNode,
     OutOfRange,
+    TableFull,
     Exhausted,
     Frame(usize),
     Down,
@@ -475,7 +660,10 @@ enum Refusal {
 impl Refusal {
     fn number(self) -> u8 {
         match self {
+            Refusal::NotLeader => 2,
+            Refusal::UnknownNode => 9,
             Refusal::OutOfRange => 12,
+            Refusal::TableFull => 13,
             Refusal::Exhausted => 14,
             Refusal::Frame(_) => 15,
             Refusal::Down => 16,
@@ -542,15 +730,86 @@ impl Reader<'_> {
         }
     }
 
-    fn entry(&mut self) -> Result<Entry, Refusal> {
-        let term = self.number()?;
+    /// A byte from the first number to the second.
+    fn byte_in(&mut self, least: u8, most: u8) -> Result<u8, Refusal> {
         match self.u8()? {
-            0 => Ok(Entry {
-                term,
-                command: Command::Noop,
-            }),
+            byte if (least..=most).contains(&byte) => Ok(byte),
             _ => Err(Refusal::Frame(self.at - 1)),
         }
+    }
+
+    fn name(&mut self) -> Result<String, Refusal> {
+        let start = self.at;
+        let size = usize::from(self.u8()?);
+        let found = self.bytes.get(self.at..self.at + size).ok_or(Refusal::Frame(start))?;
+        let name = std::str::from_utf8(found).ok().filter(|it| is_name(it));
+        self.at += size;
+        Ok(name.ok_or(Refusal::Frame(start))?.to_string())
+    }
+
+    fn size_of(&mut self) -> Result<[u32; 3], Refusal> {
+        let start = self.at;
+        let mut numbers = [0; 3];
+        for number in &mut numbers {
+            let found = self.bytes.get(self.at..self.at + 4).ok_or(Refusal::Frame(self.at))?;
+            *number = u64::from(u32::from_be_bytes(found.try_into().unwrap()));
+            self.at += 4;
+        }
+        size_of(numbers).ok_or(Refusal::Frame(start))
+    }
+
+    fn group(&mut self) -> Result<Group, Refusal> {
+        Ok(Group {
+            name: self.name()?,
+            count: self.byte_in(0, 64)?,
+            class: self.name()?,
+            size: self.size_of()?,
+        })
+    }
+
+    fn job(&mut self) -> Result<Job, Refusal> {
+        let name = self.name()?;
+        let priority = self.byte_in(1, 100)?;
+        let count = self.byte_in(1, 8)?;
+        let mut groups: Vec<Group> = Vec::with_capacity(usize::from(count));
+        for _ in 0..count {
+            let start = self.at;
+            let group = self.group()?;
+            if groups.iter().any(|it| it.name == group.name) {
+                return Err(Refusal::Frame(start));
+            }
+            groups.push(group);
+        }
+        Ok(Job {
+            name,
+            priority,
+            groups,
+        })
+    }
+
+    fn command(&mut self) -> Result<Command, Refusal> {
+        match self.u8()? {
+            0 => Ok(Command::Noop),
+            1 => Ok(Command::JobPut(Rc::new(self.job()?))),
+            3 => {
+                let number = self.byte_in(1, 64)?;
+                let (class, size) = (self.name()?, self.size_of()?);
+                let node = Node {
+                    class,
+                    size,
+                    drains: None,
+                };
+                Ok(Command::NodePut(number, Rc::new(node)))
+            }
+            5 => Ok(Command::Drain(self.byte_in(1, 64)?, self.bool()?)),
+            _ => Err(Refusal::Frame(self.at - 1)),
+        }
+    }
+
+    fn entry(&mut self) -> Result<Entry, Refusal> {
+        let term = self.number()?;
+        let command = self.command()?;
+        Ok(Entry { term, command })
     }
 
     fn append(&mut self) -> Result<Body, Refusal> {
@@ -629,15 +888,74 @@ enum Role {
     Leader,
 }
 
-/// The replicated state: how many commands were applied.
+/// A job's row: what was put last, and how many commands were applied then.
+#[allow(dead_code)] // No worker reads it here.
+struct JobRow {
+    job: Rc<Job>,
+    version: u64,
+}
+
+/// A pending evaluation.
+#[allow(dead_code)]
+struct Evaluation {
+    job: Rc<Job>,
+    priority: u8,
+}
+
+/// The replicated state: how many commands were applied, and the rows. An evaluation is found by
+/// the index of the entry that made it.
+#[derive(Default)]
 struct State {
     count: u64,
+    jobs: HashMap<String, JobRow>,
+    nodes: HashMap<u8, Node>,
+    evaluations: HashMap<u64, Evaluation>,
 }
 
 impl State {
-    fn apply(&mut self, command: &Command) {
+    /// Why a command is not proposed, if it is not.
+    fn refusal(&self, command: &Command) -> Option<Refusal> {
         match command {
-            Command::Noop => self.count += 1,
+            Command::JobPut(job) => {
+                let has_room = self.jobs.len() < 256 || self.jobs.contains_key(&job.name);
+                (!has_room || self.evaluations.len() >= 65_536).then_some(Refusal::TableFull)
+            }
+            Command::Drain(number, _) => {
+                (!self.nodes.contains_key(number)).then_some(Refusal::UnknownNode)
+            }
+            Command::Noop | Command::NodePut(_, _) => None,
+        }
+    }
+
+    fn put_job(&mut self, job: &Rc<Job>) {
+        let row = JobRow {
+            job: job.clone(),
+            version: self.count,
+        };
+        match self.jobs.get_mut(&job.name) {
+            Some(old) => *old = row,
+            None => drop(self.jobs.insert(job.name.clone(), row)),
+        }
+        let evaluation = Evaluation {
+            job: job.clone(),
+            priority: job.priority,
+        };
+        self.evaluations.insert(self.count, evaluation);
+    }
+
+    fn apply(&mut self, command: &Command) {
+        self.count += 1;
+        match command {
+            Command::Noop => {}
+            Command::JobPut(job) => self.put_job(job),
+            Command::NodePut(number, node) => {
+                self.nodes.insert(*number, Node::clone(node));
+            }
+            Command::Drain(number, force) => {
+                if let Some(node) = self.nodes.get_mut(number) {
+                    node.drains = Some(*force);
+                }
+            }
         }
     }
 }
@@ -666,7 +984,7 @@ impl Server {
             term: 0,
             vote: None,
             log: Vec::new(),
-            state: Some(State { count: 0 }),
+            state: Some(State::default()),
             role: Role::Follower,
             commit: 0,
             known: None,
@@ -699,7 +1017,7 @@ impl Server {
                 self.role = Role::Follower;
                 self.commit = 0;
                 self.known = None;
-                self.state = Some(State { count: 0 });
+                self.state = Some(State::default());
             }
             (_, false) => return Err(Refusal::Down),
             (Input::Crash, true) => self.state = None,
@@ -707,6 +1025,26 @@ impl Server {
             (Input::Beat, true) => self.beat(out),
         }
         Ok(())
+    }
+
+    fn propose(&mut self, command: Command) -> Result<(), Refusal> {
+        if self.state.is_none() {
+            return Err(Refusal::Down);
+        }
+        if self.role != Role::Leader {
+            return Err(Refusal::NotLeader);
+        }
+        if self.last() + 1 >= LIMIT {
+            return Err(Refusal::Exhausted);
+        }
+        match self.state.as_ref().and_then(|it| it.refusal(&command)) {
+            Some(refusal) => Err(refusal),
+            None => {
+                let term = self.term;
+                self.log.push(Entry { term, command });
+                Ok(())
+            }
+        }
     }
 
     fn timeout(&mut self, out: &mut Frames) -> Result<(), Refusal> {
@@ -926,14 +1264,19 @@ impl Server {
 
 struct World {
     servers: Vec<Server>,
+    nodes: Vec<Rc<Node>>,
+    commands: Vec<Command>,
     frames: Frames,
     trace: Vec<Event>,
 }
 
 impl World {
-    fn new(size: usize) -> World {
+    fn new(scenario: &Scenario, commands: Vec<Command>) -> World {
+        let size = scenario.servers;
         World {
             servers: (1..=size as u8).map(|it| Server::new(ServerId(it), size)).collect(),
+            nodes: scenario.nodes.clone(),
+            commands,
             frames: Frames::default(),
             trace: Vec::new(),
         }
@@ -953,6 +1296,16 @@ impl World {
             Event::Server(me, input) => {
                 let server = self.servers.get_mut(me.place()).ok_or(Refusal::OutOfRange)?;
                 server.take(input, &mut self.frames)?;
+            }
+            Event::Register(client, to) => {
+                let place = usize::from(client - 1);
+                let node = self.nodes.get(place).ok_or(Refusal::OutOfRange)?.clone();
+                let server = self.servers.get_mut(to.place()).ok_or(Refusal::OutOfRange)?;
+                server.propose(Command::NodePut(client, node))?;
+            }
+            Event::Propose(me, place) => {
+                let server = self.servers.get_mut(me.place()).ok_or(Refusal::OutOfRange)?;
+                server.propose(self.commands[place].clone())?;
             }
         }
         self.trace.push(event);
@@ -1035,9 +1388,9 @@ struct Play {
 }
 
 impl Play {
-    fn new(scenario: &Scenario) -> Play {
+    fn new(scenario: &Scenario, commands: Vec<Command>) -> Play {
         Play {
-            world: World::new(scenario.servers),
+            world: World::new(scenario, commands),
             flight: VecDeque::new(),
             seen: 0,
             words: Words::new(scenario.key),
@@ -1118,11 +1471,11 @@ fn print_end(out: &mut impl Write, world: &World) -> io::Result<()> {
 fn run(text: &str, out: &mut impl Write) -> Result<u8, &'static str> {
     let failed = |_| "output";
     let scenario = read_scenario(text).map_err(|_| "bad scenario")?;
-    let mut steps = Vec::new();
+    let (mut steps, mut commands) = (Vec::new(), Vec::new());
     for line in &scenario.steps {
-        steps.push(read_step(line).ok_or("bad scenario")?);
+        steps.push(read_step(line, &mut commands).ok_or("bad scenario")?);
     }
-    let mut play = Play::new(&scenario);
+    let mut play = Play::new(&scenario, commands);
     let mut status = 0;
     for (step, line) in steps.iter().zip(&scenario.steps) {
         if let Err(refusal) = play.take(step) {
