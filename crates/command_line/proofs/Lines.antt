@@ -10,7 +10,7 @@ use Rattle.clap.specs.Simple.{Shape, argument_words, built_leaf, entered, filled
 use Rattle.clap.specs.Kinds.{Kinds, check_kinds}
 use Rattle.clap.specs.Faults.{built_fault, check_fault, defaults_fault, entered_fault, level_fault, settle_fault, walk_fault}
 use Rattle.clap.specs.Takes.{is_given}
-use Rattle.command_line.specs.Words.{app_with, at_option, csv_flag, html_flag, jobs_option, json_flag, keys_option, nomadsim_app, out_option, percent_option, required_word, workers_option}
+use Rattle.command_line.specs.Words.{app_with, at_option, csv_flag, html_flag, jobs_option, json_flag, keys_option, nomadsim_app, out_option, percent_option, required_word, short_flag, workers_option}
 use Rattle.command_line.specs.Inner.Lines.{is_line}
 use Rattle.command_line.proofs.GivenValues.{given_has_value, rows_are_valued}
 use Rattle.command_line.proofs.Rounds.{IsNoHelp, no_first, no_second, stops_at_no_help}
@@ -37,7 +37,7 @@ abbrev draw_level : Shape
 draw_level = level (codes "draw") (codes "T") (filled html_flag ∷ help_flag ∷ [])
 
 abbrev check_level : Shape
-check_level = level (codes "check") (codes "FILE") (help_flag ∷ [])
+check_level = level (codes "check") (codes "FILE") (filled short_flag ∷ help_flag ∷ [])
 
 abbrev tell_level : Shape
 tell_level = level (codes "tell") (codes "T") (help_flag ∷ [])
@@ -111,6 +111,9 @@ workers_apart = other_more (codes "FILE") (filled workers_option) (filled out_op
 html_apart : AreOther (codes "T") (filled html_flag ∷ help_flag ∷ [])
 html_apart = other_more (codes "T") (filled html_flag) (help_flag ∷ []) refl (help_apart (codes "T") refl)
 
+short_apart : AreOther (codes "FILE") (filled short_flag ∷ help_flag ∷ [])
+short_apart = other_more (codes "FILE") (filled short_flag) (help_flag ∷ []) refl (help_apart (codes "FILE") refl)
+
 json_apart : AreOther (codes "T") (filled json_flag ∷ help_flag ∷ [])
 json_apart = other_more (codes "T") (filled json_flag) (help_flag ∷ []) refl (help_apart (codes "T") refl)
 
@@ -149,7 +152,7 @@ met_line words true threads replay draw check tell inspect expand sweep help no_
 met_line words false true replay draw check tell inspect expand sweep help no_help none some = rw (has_value (codes "threads") (codes "FILE") _ workers_apart words none) refl
 met_line words false false true draw check tell inspect expand sweep help no_help none some = rw (has_value (codes "replay") (codes "T") _ (help_apart (codes "T") refl) words none) refl
 met_line words false false false true check tell inspect expand sweep help no_help none some = rw (has_value (codes "draw") (codes "T") _ html_apart words none) refl
-met_line words false false false false true tell inspect expand sweep help no_help none some = rw (has_value (codes "check") (codes "FILE") _ (help_apart (codes "FILE") refl) words none) refl
+met_line words false false false false true tell inspect expand sweep help no_help none some = rw (has_value (codes "check") (codes "FILE") _ short_apart words none) refl
 met_line words false false false false false true inspect expand sweep help no_help none some = rw (has_value (codes "tell") (codes "T") _ (help_apart (codes "T") refl) words none) refl
 met_line words false false false false false false true expand sweep help no_help none some = rw (has_value (codes "inspect") (codes "T") _ at_apart words none) refl
 met_line words false false false false false false false true sweep help no_help none some = rw (has_value (codes "expand") (codes "FILE") _ (help_apart (codes "FILE") refl) words none) refl

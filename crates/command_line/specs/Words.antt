@@ -43,6 +43,10 @@ json_flag = record (new_rule (codes "json")) { long = Some (codes "json"); actio
 abbrev pub html_flag : Rule
 html_flag = record (new_rule (codes "html")) { long = Some (codes "html"); action = Some SetTrue }
 
+-- `--short`
+abbrev pub short_flag : Rule
+short_flag = record (new_rule (codes "short")) { long = Some (codes "short"); action = Some SetTrue }
+
 -- a subcommand of this name with a word that has to be there
 abbrev pub app_with : Text → Text → App
 app_with name id = with_rule (new_app name) (required_word id)
@@ -61,7 +65,7 @@ abbrev pub draw_app : App
 draw_app = with_rule (app_with (codes "draw") (codes "T")) html_flag
 
 abbrev pub check_app : App
-check_app = app_with (codes "check") (codes "FILE")
+check_app = with_rule (app_with (codes "check") (codes "FILE")) short_flag
 
 abbrev pub tell_app : App
 tell_app = app_with (codes "tell") (codes "T")
@@ -118,8 +122,8 @@ bare_app =
     record a { top = record a.top { has_version = true; subcommand_required = true } }
 
 -- `nomadsim run FILE [--out T]`, `nomadsim threads FILE [--workers N] [--out T]`,
--- `nomadsim replay T`, `nomadsim draw T [--html]`, `nomadsim check FILE`, `nomadsim tell T`,
--- `nomadsim inspect T [--at K] [--json]`, `nomadsim expand FILE`,
+-- `nomadsim replay T`, `nomadsim draw T [--html]`, `nomadsim check FILE [--short]`,
+-- `nomadsim tell T`, `nomadsim inspect T [--at K] [--json]`, `nomadsim expand FILE`,
 -- `nomadsim sweep FILE --keys A..B [--drop P] [--repeat P] [--jobs N] [--csv]`
 abbrev pub nomadsim_app : App
 nomadsim_app =
@@ -185,8 +189,9 @@ IsLineFor name rows (Replay file) =
 IsLineFor name rows (Draw file html) =
     (name ≡ codes "draw") × (first_of (codes "T") rows ≡ Some file.now)
     × (html ≡ says_yes (first_of (codes "html") rows))
-IsLineFor name rows (Check file) =
+IsLineFor name rows (Check file short) =
     (name ≡ codes "check") × (first_of (codes "FILE") rows ≡ Some file.now)
+    × (short ≡ says_yes (first_of (codes "short") rows))
 IsLineFor name rows (Tell file) =
     (name ≡ codes "tell") × (first_of (codes "T") rows ≡ Some file.now)
 IsLineFor name rows (Inspect file at json) =
@@ -221,7 +226,7 @@ IsPlay (Run file out) = Unit {0}
 IsPlay (Threads file workers out) = Unit {0}
 IsPlay (Replay file) = Unit {0}
 IsPlay (Draw file html) = ⊥
-IsPlay (Check file) = ⊥
+IsPlay (Check file short) = ⊥
 IsPlay (Tell file) = ⊥
 IsPlay (Inspect file at json) = ⊥
 IsPlay (Expand file) = ⊥
@@ -237,7 +242,7 @@ IsThreads (Run file out) = ⊥
 IsThreads (Threads file workers out) = Unit {0}
 IsThreads (Replay file) = ⊥
 IsThreads (Draw file html) = ⊥
-IsThreads (Check file) = ⊥
+IsThreads (Check file short) = ⊥
 IsThreads (Tell file) = ⊥
 IsThreads (Inspect file at json) = ⊥
 IsThreads (Expand file) = ⊥

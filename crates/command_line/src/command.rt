@@ -5,7 +5,7 @@ ghost use Rattle.clap.specs.declared.builder.command.Command.TheViews.{out-Comma
 ghost use Rattle.clap.specs.declared.error.kind.ErrorKind.TheVariants.{OutOfMemory, ValueValidation};
 ghost use Rattle.command_line.specs.Inner.Commands.{IsMade};
 ghost use Rattle.command_line.specs.Inner.Lines.{complaint_text, is_line, is_taken};
-ghost use Rattle.command_line.specs.Words.{AreSweepWords, AreWorkers, AskFor, IsNamedLine, IsLineFor, app_with, are_sweep_words, are_workers, at_option, bare_app, check_app, csv_flag, draw_app, expand_app, html_flag, inspect_app, jobs_option, json_flag, keys_app, keys_option, nomadsim_app, out_option, percent_option, percents_app, replay_app, required_word, run_app, says_yes, sweep_app, tell_app, threads_app, words_fault, workers_option};
+ghost use Rattle.command_line.specs.Words.{AreSweepWords, AreWorkers, AskFor, IsNamedLine, IsLineFor, app_with, are_sweep_words, are_workers, at_option, bare_app, check_app, csv_flag, draw_app, expand_app, html_flag, inspect_app, jobs_option, json_flag, keys_app, keys_option, nomadsim_app, out_option, percent_option, percents_app, replay_app, required_word, run_app, says_yes, short_flag, sweep_app, tell_app, threads_app, words_fault, workers_option};
 
 use crate::help::{
     ABOUT, CHECKS, DRAWS, ENDS, EXPANDS, INSPECTS, NO_COUNT, NO_KEYS, NO_NUMBER, REPLAYS, SCENARIO,
@@ -72,10 +72,13 @@ pub enum CommandLine<'a> {
         /// Whether as a page, with how the group stands beside the picture.
         html: bool,
     },
-    /// `check FILE`: what is wrong with the scenario in that file is said, and it is not played.
+    /// `check FILE [--short]`: what is wrong with the scenario in that file is said, and it is not
+    /// played.
     Check {
         /// The scenario's file, `-` for the standard input.
         file: &'a str,
+        /// Whether it is one in short form.
+        short: bool,
     },
     /// `tell T`: what each event of a transcript did is told.
     Tell {
@@ -155,6 +158,16 @@ fn html_arg<'a>(alloc: Global) -> Arg<'a>
         .long("html")
         .action(ArgAction::SetTrue)
         .help("Prints a page that also tells how the group stands")
+}
+
+fn short_arg<'a>(alloc: Global) -> Arg<'a>
+    ensures rule { rule_of result ≡ short_flag }
+    ensures local { result.global ≡ false }
+{
+    Arg::new(alloc, "short")
+        .long("short")
+        .action(ArgAction::SetTrue)
+        .help("The file is one in short form, as 'nomadsim expand' takes it")
 }
 
 fn json_arg<'a>(alloc: Global) -> Arg<'a>
@@ -253,14 +266,15 @@ fn draw_command<'a>(alloc: Global) -> Result<Command<'a>, Error>
 fn check_command<'a>(alloc: Global) -> Result<Command<'a>, Error>
     ensures { IsMade check_app result }
 {
-    begun(
+    let command = begun(
         alloc,
         "check",
         "Says what is wrong with a scenario, without playing it",
         CHECKS,
         "FILE",
         SCENARIO,
-    )
+    );
+    with_arg(command, short_arg(alloc))
 }
 
 fn tell_command<'a>(alloc: Global) -> Result<Command<'a>, Error>
@@ -485,7 +499,8 @@ fn check_line<'a>(given: &ArgMatches<'a>) -> Option<CommandLine<'a>>
         ≡ false) }
 {
     let file = value_of(given, "FILE")?;
-    Some(CommandLine::Check { file })
+    let short = says_yes(value_of(given, "short"));
+    Some(CommandLine::Check { file, short })
 }
 
 fn tell_line<'a>(given: &ArgMatches<'a>) -> Option<CommandLine<'a>>

@@ -142,7 +142,7 @@ With --out T the file T gets a transcript of what happened, before the last
 lines are printed; 'nomadsim replay T' and 'nomadsim draw T' take it.
 
 'nomadsim check FILE' says what is wrong with a file, and of each step that is
-none what it has to be.";
+none which part of it is.";
 
 pub(crate) const THREADS: &str = "\
 The file is one of 'nomadsim run --help'. Each server and each client has a
@@ -243,13 +243,18 @@ Example:
 
 pub(crate) const CHECKS: &str = "\
 The file and each of its steps are read, and no step is taken. What is wrong is
-printed: the first thing in a file that holds no scenario, else each step that
-is none, with what it has to be. The exit status is 0 where nothing is wrong,
-and 2 where something is. 'nomadsim run --help' says what a scenario's file
-holds.
+printed: the first thing in a file that holds no scenario, else of each step
+that is none its number, its line, and the first part of it that is wrong. The
+exit status is 0 where nothing is wrong, and 2 where something is. 'nomadsim run
+--help' says what a scenario's file holds.
 
-Example:
-  nomadsim check data/first-election.json";
+With --short the file is one in short form, as 'nomadsim expand --help' says. In
+a list that is repeated a step has more than one number: 3.2 is the second step
+of the list that stands third.
+
+Examples:
+  nomadsim check data/first-election.json
+  nomadsim check data/bad-net.short --short";
 
 pub(crate) const EXPANDS: &str = "\
 The file is one of 'nomadsim run --help', in whose list of steps there may stand
@@ -301,7 +306,9 @@ of those with most events.
 
 With --csv there is a line for each key instead, behind one of their names: the
 key, the leader, the greatest term, how many steps were refused, how many
-allocations live, how many of them run, events and messages.
+allocations live, how many of them run, events and messages. Lines are printed
+in the order of their keys while later keys are played; where the output fails,
+those that were printed stand.
 
 The exit status is 0, whether steps were refused or not.
 

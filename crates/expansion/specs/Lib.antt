@@ -5,3 +5,4 @@ pub mod Expanded
 pub mod Plains
 pub mod Inner
 pub mod Stops
+pub mod Checked

@@ -1,6 +1,7 @@
 //! Scenarios in short form, and the plain ones that they stand for.
 #![tactic(auto)]
 
+pub mod checking;
 pub mod expanding;
 pub mod plain;
 mod settling;

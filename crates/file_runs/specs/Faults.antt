@@ -6,6 +6,7 @@ use Rattle.clap.specs.declared.error.kind.ErrorKind.TheVariants as kinds
 use Rattle.ending.specs.declared.fault.EndError.{EndError}
 use Rattle.ending.specs.declared.fault.EndError.TheVariants as ends
 use Rattle.file_runs.specs.declared.fault.Fault.{Fault}
+use Rattle.file_runs.specs.declared.hint.Hint.{Hint}
 use Rattle.file_runs.specs.declared.fault.Fault.TheVariants.{CommandLine, CannotRead, CannotWrite, BadScenario, BadTranscript, NoSuchEvent, Percentages, NoMemory, Output}
 use Rattle.event_texts.specs.Transcripts.{IsFault, IsTranscript, Recorded}
 
@@ -18,7 +19,7 @@ IsStatus (CommandLine error) status = (IsHelp error × (status ≡ 0)) ⊎ ((¬ 
 IsStatus (CannotRead name) status = status ≡ 2
 IsStatus (CannotWrite name) status = status ≡ 2
 IsStatus BadScenario status = status ≡ 2
-IsStatus (BadTranscript place) status = status ≡ 2
+IsStatus (BadTranscript place hint) status = status ≡ 2
 IsStatus (NoSuchEvent events) status = status ≡ 2
 IsStatus (Percentages lost repeated) status = status ≡ 2
 IsStatus NoMemory status = status ≡ 3
@@ -33,7 +34,7 @@ IsOfRun _ = ⊤
 abbrev pub IsPastReading : Fault → Type 0
 IsPastReading (CannotRead name) = ⊥
 IsPastReading BadScenario = ⊥
-IsPastReading (BadTranscript place) = ⊥
+IsPastReading (BadTranscript place hint) = ⊥
 IsPastReading (Percentages lost repeated) = ⊥
 IsPastReading _ = ⊤
 
@@ -55,5 +56,5 @@ MayStopPrinting fault = (fault ≡ NoMemory) ⊎ (fault ≡ Output)
 abbrev pub MayStopTranscript : List ℕ → Fault → Type 0
 MayStopTranscript bytes fault =
     (fault ≡ NoMemory)
-    ⊎ ((at : ℕ) × (fault ≡ BadTranscript at) × IsFault bytes at
+    ⊎ ((at : ℕ) × (hint : Hint) × (fault ≡ BadTranscript at hint) × IsFault bytes at
     × ((r : Recorded) → ¬ IsTranscript r bytes))

@@ -1,5 +1,6 @@
 pub mod Faults
 pub mod Files
+pub mod Hints
 pub mod Notes
 pub mod Plays
 pub mod Refusals

@@ -120,8 +120,8 @@ fn print_complaint<'a, W: Write>(out: &mut W, complaint: &Complaint) -> Result<(
 {
     match complaint {
         Complaint::Text(wrong) => said(writeln!(out, "{wrong}")),
-        Complaint::Step(number, line, form) => {
-            said(writeln!(out, "step {number} {line:?}: {form}"))
+        Complaint::Step(number, line, flaw) => {
+            said(writeln!(out, "step {number}: {line:?}: {flaw}"))
         }
     }
 }

@@ -3,6 +3,7 @@ ghost use Rattle.std.specs.Prelude.{◌≡◌, ◌≢◌, ◌≤◌, ◌↔◌, 
 ghost use Rattle.file_runs.specs.Faults.{IsStatus};
 ghost use Rattle.file_runs.specs.declared.fault.Fault.TheVariants as faults;
 
+use crate::hint::Hint;
 use ending::EndError;
 use rows::NoMemory;
 use std::io;
@@ -25,9 +26,9 @@ pub enum Fault<'a> {
     #[error("nomadsim: bad scenario\n")]
     BadScenario,
     /// The file that was read is no transcript: with the place of the first byte of its first line
-    /// at fault, from 0.
+    /// at fault, from 0, and what was to come there.
     #[error("nomadsim: bad transcript at byte {0}\n")]
-    BadTranscript(usize),
+    BadTranscript(usize, Hint),
     /// No number of events from 0 to that of the transcript, which this is, was given.
     #[error("nomadsim: --at has to be a whole number from 0 to {0}\n")]
     NoSuchEvent(usize),
@@ -78,7 +79,7 @@ impl Fault<'_> {
             Fault::CannotRead(_) => 2,
             Fault::CannotWrite(_) => 2,
             Fault::BadScenario => 2,
-            Fault::BadTranscript(_) => 2,
+            Fault::BadTranscript(_, _) => 2,
             Fault::NoSuchEvent(_) => 2,
             Fault::Percentages(_, _) => 2,
             Fault::NoMemory => 3,

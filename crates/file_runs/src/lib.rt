@@ -4,6 +4,7 @@
 
 pub mod checking;
 pub mod fault;
+pub mod hint;
 pub mod replaying;
 pub mod running;
 pub mod shelf;

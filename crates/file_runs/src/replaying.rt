@@ -12,6 +12,7 @@ ghost use Rattle.file_runs.specs.Inner.Replayed.{TellsEvents};
 ghost use Rattle.file_runs.specs.Replays.{TellsReplay};
 
 use crate::fault::{Fault, said};
+use crate::hint::hint_of;
 use crate::running::{load_bytes, print_refusal};
 use crate::shelf::Shelf;
 use ending::print_end;
@@ -55,7 +56,9 @@ pub fn transcript_of<'a>(alloc: Global, bytes: &[u8]) -> Result<Transcript, Faul
 {
     match read(alloc, bytes) {
         Ok(transcript) => Ok(transcript),
-        Err(Refusal::Frame(place)) => Err(Fault::BadTranscript(place)),
+        Err(Refusal::Frame(place)) => {
+            Err(Fault::BadTranscript(place, hint_of(alloc, bytes, place)?))
+        }
         Err(_) => Err(Fault::NoMemory),
     }
 }

@@ -8,6 +8,7 @@ mod crashes;
 mod folder;
 mod frames;
 mod group;
+mod helps;
 mod lines;
 mod looks;
 mod old;
@@ -46,6 +47,8 @@ fn play_program<R: Threads + Wait + Copy + Send + Sync + 'static>(
     said::no_transcripts(rt, on)?;
     said::command_lines(rt, on)?;
     said::texts(rt, on)?;
+    helps::helps(rt, on)?;
+    helps::shorts(rt, on)?;
     said::outputs(rt, on)
 }
 

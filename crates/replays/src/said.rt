@@ -49,7 +49,17 @@ pub(crate) fn run_words<R: Threads + Wait + Copy + Send + Sync + 'static>(
     folder: &mut Folder<'_>,
     words: &[&str],
 ) -> Printed {
-    run_to(rt, on, folder, words, usize::MAX)
+    run_to(rt, on, folder, words, usize::MAX, false)
+}
+
+/// What a command line says where the standard error is a terminal, in a folder of its own.
+pub(crate) fn run_at_terminal<R: Threads + Wait + Copy + Send + Sync + 'static>(
+    rt: &HostRuntime,
+    on: R,
+    text: &[u8],
+    words: &[&str],
+) -> Printed {
+    run_to(rt, on, &mut Folder::new(rt, text), words, usize::MAX, true)
 }
 
 // The words of a line.
@@ -57,8 +67,8 @@ fn words_of<'a>(alloc: Global, line: &'a str) -> Result<Vec<&'a str>, AllocError
     line.split_whitespace().collect(alloc)
 }
 
-// Puts bytes to the standard output.
-fn put(rt: &HostRuntime, bytes: &[u8]) -> io::Result<()> {
+/// Puts bytes to the standard output.
+pub(crate) fn put(rt: &HostRuntime, bytes: &[u8]) -> io::Result<()> {
     io::writer(rt).write_all(bytes)
 }
 
@@ -77,13 +87,15 @@ pub(crate) fn file_of(rt: &HostRuntime, name: &str, ending: &str) -> io::Result<
     fs::read(rt, &format!(in rt.alloc(); "{name}.{ending}")?)
 }
 
-// What a command line says where the standard output takes so many bytes.
+// What a command line says where the standard output takes so many bytes, and the standard error is
+// a terminal or not.
 fn run_to<R: Threads + Wait + Copy + Send + Sync + 'static>(
     rt: &HostRuntime,
     on: R,
     folder: &mut Folder<'_>,
     words: &[&str],
     left: usize,
+    at_terminal: bool,
 ) -> Printed {
     let alloc = rt.alloc();
     let mut out = Output {
@@ -91,7 +103,16 @@ fn run_to<R: Threads + Wait + Copy + Send + Sync + 'static>(
         bytes: Vec::new(alloc),
     };
     let mut err = Vec::new(alloc);
-    let status = nomadsim(on, alloc, words, folder, &mut out, &mut err, &Unseen);
+    let status = nomadsim(
+        on,
+        alloc,
+        words,
+        folder,
+        &mut out,
+        &mut err,
+        at_terminal,
+        &Unseen,
+    );
     let Output { left: _, bytes } = out;
     Printed {
         out: bytes,
@@ -340,8 +361,8 @@ pub(crate) fn no_transcripts<R: Threads + Wait + Copy + Send + Sync + 'static>(
     Ok(())
 }
 
-// What a command line says on the standard output, then on the standard error; and its exit status.
-fn say<R: Threads + Wait + Copy + Send + Sync + 'static>(
+/// What a command line says on the standard output, then on the standard error; and its exit status.
+pub(crate) fn say<R: Threads + Wait + Copy + Send + Sync + 'static>(
     rt: &HostRuntime,
     on: R,
     line: &str,
@@ -391,7 +412,7 @@ fn fail<R: Threads + Wait + Copy + Send + Sync + 'static>(
     left: usize,
 ) -> io::Result<()> {
     let mut folder = Folder::new(rt, b"");
-    let printed = run_to(rt, on, &mut folder, words, left);
+    let printed = run_to(rt, on, &mut folder, words, left, false);
     put(rt, &printed.err)?;
     print!(rt; "{}", printed.status)
 }

@@ -1,5 +1,7 @@
 -- Words of private contracts.
 pub mod Faults
+pub mod Helps
 pub mod Printed
+pub mod Runs
 pub mod ThreadSteps
 pub mod Closed

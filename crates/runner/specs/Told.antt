@@ -20,6 +20,7 @@ use Rattle.scenario_file.specs.Complaints.{IsGood}
 use Rattle.scenario_file.specs.EachLine.{OfEachLine}
 use Rattle.scenario_file.specs.Objects.{IsScenarioText, step_lines}
 use Rattle.playing.specs.Played.{Refused}
+use Rattle.expansion.specs.Checked.{IsGoodShortText}
 use Rattle.sweep.specs.declared.row.Row.{Row}
 use Rattle.sweep.specs.declared.summary.Summary.{Summary}
 use Rattle.sweep.specs.Rows.{AreRows}
@@ -95,6 +96,20 @@ pub record TellsStanding (file at : Option (List ℕ)) (status : ℕ) (old new :
 
 -- ---- short scenarios
 
+-- nothing is wrong with a scenario in short form, which is that of the file, where its bytes are
+-- known; and nothing is told
+pub record TellsGoodShort (file : Option (List ℕ)) (status : ℕ) (old new : Option (List ℕ)) : Type 0 where
+  pub text : List ℕ
+  pub read : IfSome file (λ known. text ≡ known)
+  pub good : IsGoodShortText text
+  pub silent : new ≡ old
+  pub taken : status ≡ 0
+
+-- the same of one in short form, or else of a plain one, of which notes are told
+abbrev pub TellsCheck : Bool → Option (List ℕ) → ℕ → Option (List ℕ) → Option (List ℕ) → Type 0
+TellsCheck true file status old new = TellsGoodShort file status old new
+TellsCheck false file status old new = TellsNotes file status old new
+
 -- the text is a scenario, each of whose lines is a step's
 abbrev pub IsGoodPlain : List ℕ → Type 0
 IsGoodPlain text = (s : Scenario) × IsScenarioText text s × IsGood s
@@ -145,7 +160,7 @@ Tells before after (Threads file workers out) status old new =
     TellsThreads (before file.now) (option_and_then after (option_map (λ t. t.now) out)) status old new
 Tells before after (Replay file) status old new = TellsReplay (before file.now) status old new
 Tells before after (Draw file html) status old new = TellsPicture (before file.now) html status old new
-Tells before after (Check file) status old new = TellsNotes (before file.now) status old new
+Tells before after (Check file short) status old new = TellsCheck short (before file.now) status old new
 Tells before after (Tell file) status old new = TellsEach (before file.now) status old new
 Tells before after (Inspect file at json) status old new =
     TellsStanding (before file.now) (option_map (λ k. k.now) at) status old new

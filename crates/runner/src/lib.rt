@@ -3,6 +3,7 @@
 //! whose modules it hands on.
 #![tactic(auto)]
 
+mod checks;
 mod drawing;
 mod expanding;
 mod paging;
@@ -15,5 +16,5 @@ mod threads;
 pub use command_line::command;
 pub use file_runs::{checking, fault, shelf};
 pub use program::nomadsim;
-pub use scenario_file::{forms, named, noting, reading, scenario, step, wrong};
+pub use scenario_file::{flaw, named, noting, reading, scenario, step, wrong};
 pub use sweep::sweeping::{Progress, Unseen};

@@ -1,5 +1,6 @@
 //! The whole program, over files and streams that are handed in.
-ghost use Rattle.std.specs.Prelude.{◌≡◌, ◌≢◌, ◌≤◌, ◌⊎◌, [], IfErr, IfOk, map};
+ghost use Rattle.std.specs.Prelude.{◌≡◌, ◌≢◌, ◌≤◌, ◌⊎◌, ℕ, [], IfErr, IfOk, List, OnOk, Option, map};
+ghost use Rattle.std.specs.Io.KnownBytes.{Appends};
 ghost use Rattle.command_line.specs.Words.{AskFor, AskForPlay, AskForThreads, IsPlay, IsThreads, words_fault};
 ghost use Rattle.command_line.specs.declared.command.CommandLine.{CommandLine};
 ghost use Rattle.file_runs.specs.Faults.{IsStatus};
@@ -7,8 +8,10 @@ ghost use Rattle.runner.specs.Faults.{IsExit};
 ghost use Rattle.runner.specs.Told.{Tells, TellsFor};
 ghost use Rattle.file_runs.specs.Faults.{IsOfRun};
 ghost use Rattle.runner.specs.Inner.Faults.{IsFound};
+ghost use Rattle.runner.specs.Inner.Helps.{help_at, help_line, scenario_help, second_word};
 ghost use Rattle.file_runs.specs.declared.fault.Fault.TheVariants.{Output};
 
+use crate::checks::check;
 use crate::drawing::draw_file;
 use crate::expanding::expand_file;
 use crate::seeing::{inspect_file, tell_file};
@@ -16,13 +19,12 @@ use crate::sweeping::sweep_file;
 use crate::threads::threads_file;
 use clap::error::ErrorKind;
 use command_line::command::{CommandLine, command};
-use file_runs::checking::check_file;
 use file_runs::fault::Fault;
 use file_runs::replaying::replay_file;
 use file_runs::running::run_file;
 use file_runs::shelf::Shelf;
 use std::alloc::Global;
-use std::io::Write;
+use std::io::{self, Write};
 use std::sync::Wait;
 use std::thread::Threads;
 use sweep::sweeping::Progress;
@@ -37,6 +39,9 @@ use sweep::sweeping::Progress;
 /// - `quiet`: at status 0 and 1 the standard error is told nothing, but under `threads` how many
 ///   messages were lost.
 ///
+/// Where the standard error is a terminal, one more line there helps behind a bad scenario or
+/// transcript.
+///
 /// `sweep` tells `progress` how far it is, and nothing else does.
 ///
 /// Under `threads` it starts threads and waits for them, so that its return is not claimed.
@@ -47,6 +52,7 @@ pub fn nomadsim<'a, R, F: Shelf, W: Write, E: Write, P: Progress + Sync>(
     shelf: &mut F,
     out: &mut W,
     err: &mut E,
+    at_terminal: bool,
     progress: &P,
 ) -> u8
 where
@@ -62,13 +68,19 @@ where
 {
     match run(rt, alloc, words, shelf, out, err, progress) {
         Ok(status) => status,
-        Err(fault) => report(&fault, out, err),
+        Err(fault) => report(&fault, words, out, err, at_terminal),
     }
 }
 
 // Help goes to the standard output, and a fault to the standard error, after what was said before
 // it; a failed output is not told.
-fn report<W: Write, E: Write>(fault: &Fault<'_>, out: &mut W, err: &mut E) -> u8
+fn report<W: Write, E: Write>(
+    fault: &Fault<'_>,
+    words: &[&str],
+    out: &mut W,
+    err: &mut E,
+    at_terminal: bool,
+) -> u8
     ensures most { result ≤ 3 }
     ensures status { (result ≡ 2) ⊎ IsStatus fault.now result }
     ensures faulty { result ≢ 1 }
@@ -84,10 +96,59 @@ fn report<W: Write, E: Write>(fault: &Fault<'_>, out: &mut W, err: &mut E) -> u8
     }
     if status != 0 {
         // Where the standard error fails too, the status still says what went wrong.
-        let _ = write!(err, "{fault}");
-        let _ = err.flush();
+        let _ = tell_fault(fault, words, err, at_terminal);
     }
     status
+}
+
+// Tells a fault; and at a terminal, behind it, what helps to mend the file.
+fn tell_fault<E: Write>(
+    fault: &Fault<'_>,
+    words: &[&str],
+    err: &mut E,
+    at_terminal: bool,
+) -> io::Result<()>
+    ensures { OnOk result ((between : Option (List ℕ)) × Appends between (E.contents err.new)
+        (help_at at_terminal (map (λ w. w.now) words.now) fault.now)) }
+{
+    write!(err, "{fault}")?;
+    if at_terminal {
+        tell_help(fault, words, err)?;
+    }
+    err.flush()
+}
+
+// Tells what helps to mend a file that is at fault, if it is one.
+fn tell_help<E: Write>(fault: &Fault<'_>, words: &[&str], err: &mut E) -> io::Result<()>
+    ensures { OnOk result (Appends (E.contents err.old) (E.contents err.new)
+        (help_line (map (λ w. w.now) words.now) fault.now)) }
+{
+    match fault {
+        Fault::BadScenario => write!(err, "{}", scenario_help(words)),
+        Fault::BadTranscript(_, hint) => writeln!(err, "{hint}"),
+        _ => Ok(()),
+    }
+}
+
+// Which command says what is wrong with a scenario; nothing where it has just been said.
+fn scenario_help(words: &[&str]) -> &'static str
+    ensures { result.now ≡ scenario_help (map (λ w. w.now) words.now) }
+{
+    match command_of(words) {
+        "check" => "",
+        "expand" => "try 'nomadsim check FILE --short'\n",
+        _ => "try 'nomadsim check FILE'\n",
+    }
+}
+
+// The word behind the program's name.
+fn command_of<'a>(words: &[&'a str]) -> &'a str
+    ensures { result.now ≡ second_word (map (λ w. w.now) words.now) }
+{
+    match words {
+        [_, command, ..] => command,
+        _ => "",
+    }
 }
 
 fn run<'a, R, F: Shelf, W: Write, E: Write, P: Progress + Sync>(
@@ -146,7 +207,7 @@ where
         } => threads_file(rt, alloc, shelf, out, err, file, workers, to),
         CommandLine::Replay { file } => replay_file(alloc, shelf, out, file),
         CommandLine::Draw { file, html } => draw_file(alloc, shelf, out, file, html),
-        CommandLine::Check { file } => check_file(alloc, shelf, out, file),
+        CommandLine::Check { file, short } => check(alloc, shelf, out, file, short),
         CommandLine::Tell { file } => tell_file(alloc, shelf, out, file),
         CommandLine::Inspect { file, at, json } => {
             inspect_file(alloc, shelf, out, file, at, json)

@@ -1,3 +1,4 @@
 pub mod Objects
 pub mod EachLine
 pub mod Complaints
+mod NamedSteps

@@ -6,4 +6,5 @@ pub mod Rooms
 pub mod Named
 pub mod Notes
 pub mod WrongTexts
+pub mod FlawTexts
 pub mod Inner

@@ -1,9 +1,6 @@
--- What is printed of what is wrong with a text that is no scenario, and of what a line has to be
--- that is no step's.
+-- What is printed of what is wrong with a text that is no scenario.
 use Rattle.std.specs.Prelude.{◌++◌, ◌∷◌, ℕ, List, Option, Some, codes, decimal, option_map, string_bytes}
 use Rattle.std.specs.Fmt.{debug_str}
-use Rattle.scenario_file.specs.declared.forms.Form.{Form}
-use Rattle.scenario_file.specs.declared.forms.Form.TheVariants.{Of, Meant, Unknown}
 use Rattle.scenario_file.specs.declared.wrong.TextPosition.{TextPosition}
 use Rattle.scenario_file.specs.declared.wrong.Wrong.{Wrong}
 use Rattle.scenario_file.specs.declared.wrong.Wrong.TheVariants.{NoText, Empty, ByteOrderMark, NoJson, KeyTwice, NoObject, Missing, Misspelt, OtherKey, Wanted, BadNode}
@@ -30,8 +27,3 @@ wrong_text (Wanted key what) = Some (34 ∷ key.now ++ (codes "\" has to be " ++
 wrong_text (BadNode number) =
     Some (codes "node " ++ (decimal number
     ++ codes " has to be an object of exactly the keys \"class\", a name of 1 to 32 of a-z0-9-, \"cpu\" and \"mem\", whole numbers from 1 to 1000000, and \"disk\", one from 0 to 1000000, which may be left out"))
-
-abbrev pub form_text : Form → List ℕ
-form_text (Of form) = codes "it has to be: " ++ form.now
-form_text (Meant verb) = codes "there is no such step; " ++ (verb.now ++ codes " may be meant, and 'nomadsim run --help' has all")
-form_text Unknown = codes "there is no such step; 'nomadsim run --help' has them"

@@ -1,11 +1,13 @@
 //! What is wrong with the text of a scenario.
-ghost use Rattle.std.specs.Prelude.{◌≡◌, ◌↔◌, [], IfOk, OnOk};
-ghost use Rattle.scenario_file.specs.Complaints.{AreComplaints, AreLineComplaints, AreTextComplaints, IsGoodText};
+ghost use Rattle.std.specs.Prelude.{◌≡◌, ◌↔◌, [], IfOk, OnOk, length};
+ghost use Rattle.scenario_file.specs.Complaints.{AreComplaints, AreLineComplaints, AreTextComplaints, IsGoodText, NamesWrongSteps};
 ghost use Rattle.scenario_file.specs.EachLine.{OfEachLine};
 ghost use Rattle.scenario_file.specs.Inner.Grown.{GrowsByOwed};
-ghost use Rattle.scenario_file.specs.Objects.{step_lines};
+ghost use Rattle.scenario_file.specs.Objects.{IsScenarioText, step_lines};
+ghost use Rattle.scenario_file.specs.declared.scenario.Scenario.{Scenario};
 
-use crate::forms::{Form, form_of};
+use crate::flaw::Flaw;
+use crate::flaws::{GroupSize, flaw_of};
 use crate::reading::scenario;
 use crate::scenario::Scenario;
 use crate::step::is_step;
@@ -20,8 +22,8 @@ use std::alloc::Global;
 pub enum Complaint {
     /// The text is no scenario.
     Text(Wrong),
-    /// This step, counted from 1, is none: its text, and what it has to be.
-    Step(usize, String, Form),
+    /// This step, counted from 1, is none: its text, and the first thing that is wrong with it.
+    Step(usize, String, Flaw),
 }
 
 /// What is wrong with a scenario's text: nothing exactly where it is a scenario and each of its
@@ -30,6 +32,8 @@ pub enum Complaint {
 pub fn complaints(alloc: Global, text: &str) -> Result<Vec<Complaint>, NoMemory>
     ensures each { IfOk result (λ found. AreComplaints text.now found.items) }
     ensures none { IfOk result (λ found. (found.items ≡ []) ↔ IsGoodText text.now) }
+    ensures steps { IfOk result (λ found. (s : Scenario) → IsScenarioText text.now s
+        → NamesWrongSteps s found.items) }
 {
     match scenario(alloc, text) {
         Ok(scenario) => bad_steps(alloc, &scenario),
@@ -55,14 +59,26 @@ fn bad_steps(alloc: Global, scenario: &Scenario) -> Result<Vec<Complaint>, NoMem
         OfEachLine AreLineComplaints 1 (step_lines scenario.now) found.items) }
 {
     let mut found = Vec::new(alloc);
+    let group = group_of(scenario);
     // A step's number is at most that of all steps.
     let _steps = scenario.steps.len();
     let mut number = 0usize;
     for line in &scenario.steps {
         number += 1;
-        judge_line(alloc, number, line.as_str(), &mut found)?;
+        judge_line(alloc, number, line.as_str(), group, &mut found)?;
     }
     Ok(found)
+}
+
+/// How many servers and clients the group of a scenario has.
+pub fn group_of(scenario: &Scenario) -> GroupSize
+    ensures servers { result.servers ≡ scenario.now.settings.servers }
+    ensures clients { result.clients ≡ length scenario.now.nodes.items }
+{
+    GroupSize {
+        servers: usize::from(scenario.settings.servers),
+        clients: scenario.nodes.len(),
+    }
 }
 
 // Complains of the line of the step of this number, if it is none.
@@ -70,6 +86,7 @@ fn judge_line(
     alloc: Global,
     number: usize,
     line: &str,
+    group: GroupSize,
     found: &mut Vec<Complaint>,
 ) -> Result<(), NoMemory>
     ensures { OnOk result (GrowsByOwed (AreLineComplaints number line.now)
@@ -79,12 +96,14 @@ fn judge_line(
         return Ok(());
     }
     let text = String::from_str(alloc, line)?;
-    found.push(Complaint::Step(number, text, form_of(alloc, line)?))?;
+    let flaw = flaw_of(alloc, line, group)?.flaw;
+    found.push(Complaint::Step(number, text, flaw))?;
     Ok(())
 }
 
-// What is wrong with a text that is no scenario.
-fn wrong_text(alloc: Global, text: &str) -> Result<Wrong, NoMemory> {
+/// What is wrong with a text that is no scenario; that its steps are no list of texts, where nothing
+/// else is.
+pub fn wrong_text(alloc: Global, text: &str) -> Result<Wrong, NoMemory> {
     if text.trim_ascii().is_empty() {
         return Ok(Wrong::Empty);
     }

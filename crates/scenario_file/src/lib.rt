@@ -2,7 +2,9 @@
 #![tactic(auto)]
 
 pub mod checking;
-pub mod forms;
+pub mod flaw;
+pub mod flaws;
+mod grammar;
 pub mod named;
 pub mod noting;
 pub mod reading;

@@ -1,8 +1,10 @@
 -- Rows by their keys.
-use Rattle.std.proofs.Common.{◌≡◌, ◌∙◌, ◌+◌, ◌<◌, ◌≤◌, ◌⊎◌, ◌++◌, ◌∷◌, ℕ, zero, suc, List, [], Option, Some, None, Result, Ok, Err, HoldsAt, MatchOption, ap, arith, inl, inr, length, map, option_copied, refl, replicate, set, slice_get, subst, sym}
+use Rattle.std.proofs.Common.{◌≡◌, ◌∙◌, ◌+◌, ◌<◌, ◌≤◌, ◌⊎◌, ◌++◌, ◌∷◌, ◌%◌, ◌^◌, ℕ, zero, suc, List, [], Option, Some, None, Result, Ok, Err, HoldsAt, MatchOption, ap, arith, inl, inr, length, map, append_assoc, option_copied, refl, replicate, set, slice_get, subst, sym}
 use denote.Ref.{Bor}
 use Rattle.std.specs.Prelude.{IfErr, IfOk, MatchResult}
 use Rattle.std.specs.List.{All, AllZip, Contains}
+use Rattle.std.proofs.Math.Nat.{mod-add-mod}
+use Rattle.std.proofs.lemmas.List.{append-nil}
 use Rattle.std.proofs.lemmas.List.Elements.{All-cons, All-contains, All-nil}
 use Rattle.std.proofs.lemmas.List.FromFn.{map-range_with_len_more}
 use Rattle.std.proofs.lemmas.Option.{same_Some, slice_get-get_or}
@@ -18,7 +20,42 @@ use Rattle.sweep.specs.Rows.{IsRow, key_at, keys_from}
 one_more_key : (first n : ℕ) → keys_from first (n + 1) ≡ keys_from first n ++ key_at first n ∷ []
 one_more_key first n = map-range_with_len_more (key_at first) 0 n n (omega arith)
 
+-- ---- keys behind others
+
+-- counted from the one behind the first n
+key_behind : (first n k : ℕ) → key_at (key_at first n) k ≡ key_at first (n + k)
+key_behind first n k =
+    let same : (first + n) + k ≡ first + (n + k) = omega arith in
+    mod-add-mod (first + n) (2 ^ 64) k ∙ ap (λ x. x % 2 ^ 64) same
+
+keys_behind : (first n m : ℕ) → keys_from first (n + m) ≡ keys_from first n ++ keys_from (key_at first n) m
+keys_behind first n zero =
+    let none : n + 0 ≡ n = omega arith in
+    ap (keys_from first) none ∙ sym (append-nil (keys_from first n))
+keys_behind first n (suc m) =
+    let others = keys_from (key_at first n) m in
+    let count : n + suc m ≡ (n + m) + 1 = omega arith in
+    let more : m + 1 ≡ suc m = omega arith in
+    ap (keys_from first) count ∙ one_more_key first (n + m)
+    ∙ ap (λ xs. xs ++ key_at first (n + m) ∷ []) (keys_behind first n m)
+    ∙ append_assoc (keys_from first n) others (key_at first (n + m) ∷ [])
+    ∙ ap (λ k. keys_from first n ++ (others ++ k ∷ [])) (sym (key_behind first n m))
+    ∙ ap (λ xs. keys_from first n ++ xs) (sym (one_more_key (key_at first n) m))
+    ∙ ap (λ k. keys_from first n ++ keys_from (key_at first n) k) more
+
+zipped_behind : {N T : Type 0} (R : N → T → Type 0) (ns ms : List N) (xs ys : List T) → AllZip R ns xs → AllZip R ms ys → AllZip R (ns ++ ms) (xs ++ ys)
+zipped_behind R [] ms [] ys zip more = more
+zipped_behind R [] ms (x ∷ xs) ys zip more = absurd zip
+zipped_behind R (n ∷ ns) ms [] ys zip more = absurd zip
+zipped_behind R (n ∷ ns) ms (x ∷ xs) ys zip more = (zip.0, zipped_behind R ns ms xs ys zip.1 more)
+
 module _ (s : Scenario) (settings : Settings) (first : ℕ) where
+  -- the rows of the first n keys, and those of the next m
+  pub rows_behind : (n m : ℕ) (rows others : List Row) → AllZip (IsRow s settings) (keys_from first n) rows → AllZip (IsRow s settings) (keys_from (key_at first n) m) others
+      → AllZip (IsRow s settings) (keys_from first (n + m)) (rows ++ others)
+  rows_behind n m rows others are more =
+      rw (keys_behind first n m) (zipped_behind (IsRow s settings) (keys_from first n) (keys_from (key_at first n) m) rows others are more)
+
   pub one_more_row : (n : ℕ) (rows : List Row) (row : Row) → AllZip (IsRow s settings) (keys_from first n) rows → IsRow s settings (key_at first n) row
       → AllZip (IsRow s settings) (keys_from first (n + 1)) (rows ++ row ∷ [])
   one_more_row n rows row are is =

@@ -16,6 +16,9 @@ use std::thread::Threads;
 pub trait Progress {
     /// So many of so many runs are over.
     fn done(&self, done: u64, all: u64);
+
+    /// Something else is told next.
+    fn clear(&self);
 }
 
 /// Nobody is told.
@@ -24,6 +27,8 @@ pub struct Unseen;
 
 impl Progress for Unseen {
     fn done(&self, _done: u64, _all: u64) {}
+
+    fn clear(&self) {}
 }
 
 /// The row of the key at a position.

@@ -1,6 +1,7 @@
 //! What runs come to, as text.
 ghost use Rattle.std.specs.Prelude.{◌≡◌, ◌++◌, IfOk, OnOk, string_bytes};
-ghost use Rattle.sweep.specs.Tables.{back_text, counts_text, csv_line, csv_text, front_text, spread_line, spreads_text, summary_text};
+ghost use Rattle.std.specs.List.{flat_map};
+ghost use Rattle.sweep.specs.Tables.{back_text, counts_text, csv_head, csv_line, front_text, spread_line, spreads_text, summary_text};
 
 use crate::row::Row;
 use crate::spread::Spread;
@@ -12,11 +13,18 @@ use std::alloc::{AllocError, Global};
 // The names of what stands in a line of each run.
 const HEAD: &str = "key,leader,term,refused,allocations,running,events,messages\n";
 
-/// A line for each run, behind one of the names of what stands in it.
-pub fn csv_text(alloc: Global, rows: &[Row]) -> Result<String, NoMemory>
-    ensures { IfOk result (λ text. string_bytes text ≡ csv_text rows.now) }
+/// The line of the names of what stands in the line of each run.
+pub fn csv_head() -> &'static str
+    ensures { result.now ≡ csv_head }
 {
-    let mut text = String::from_str(alloc, HEAD)?;
+    HEAD
+}
+
+/// A line for each run.
+pub fn csv_lines(alloc: Global, rows: &[Row]) -> Result<String, NoMemory>
+    ensures { IfOk result (λ text. string_bytes text ≡ flat_map csv_line rows.now) }
+{
+    let mut text = String::new(alloc);
     for row in rows {
         put_row(row, &mut text)?;
     }

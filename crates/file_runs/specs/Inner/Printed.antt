@@ -6,13 +6,14 @@ use Rattle.std.specs.Str.{IsUtf8}
 use Rattle.scenario_file.specs.declared.checking.Complaint.{Complaint}
 use Rattle.scenario_file.specs.declared.checking.Complaint.TheVariants as complaints
 use Rattle.scenario_file.specs.Complaints.{AreComplaints}
-use Rattle.scenario_file.specs.WrongTexts.{form_text, wrong_text}
+use Rattle.scenario_file.specs.FlawTexts.{flaw_text}
+use Rattle.scenario_file.specs.WrongTexts.{wrong_text}
 
 -- the line of a complaint; nothing is said of one that shows a text past ASCII
 abbrev pub complaint_line : Complaint → Option (List ℕ)
 complaint_line (complaints.Text wrong) = option_map (λ text. text ++ 10 ∷ []) (wrong_text wrong)
-complaint_line (complaints.Step number line form) =
-    option_map (λ shown. codes "step " ++ (decimal number ++ (32 ∷ shown ++ (codes ": " ++ (form_text form ++ 10 ∷ [])))))
+complaint_line (complaints.Step number line flaw) =
+    option_map (λ shown. codes "step " ++ (decimal number ++ (codes ": " ++ (shown ++ (codes ": " ++ (flaw_text flaw ++ 10 ∷ []))))))
     (debug_str (string_bytes line))
 
 -- the output grows by the line of each complaint in turn

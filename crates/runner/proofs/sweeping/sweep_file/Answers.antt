@@ -8,8 +8,8 @@ returns-clause-told g c = record {
   good = c.in_ok-check_steps.ensures.good;
   settings = c.in_ok-settings.settings;
   under = c.in_ok-settings.ensures.ok;
-  rows = c.in_ok-rows.rows.items;
-  are = c.in_ok-rows.ensures.rows;
-  shown = rw c.deref.ensures.value at c.in_ok-show_rows.ensures.told;
+  rows = c.in_ok-show_runs.ensures.told.0;
+  are = c.in_ok-show_runs.ensures.told.1;
+  shown = c.in_ok-show_runs.ensures.told.2;
   taken = refl;
 }

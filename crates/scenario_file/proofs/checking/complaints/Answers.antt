@@ -1,10 +1,11 @@
-use Rattle.std.proofs.Common.{Err, IfOk, List, Ok, Result, ◌⊎◌, inl, inr}
+use Rattle.std.proofs.Common.{Err, IfOk, List, Ok, Result, ◌⊎◌, inl, inr, subst, sym}
 use Rattle.scenario_file.specs.declared.checking.Complaint.{Complaint}
 use Rattle.scenario_file.specs.declared.scenario.Scenario.{Scenario}
 use Rattle.scenario_file.specs.Complaints.{AreComplaints, AreLineComplaints, AreTextComplaints}
 use Rattle.scenario_file.specs.EachLine.{OfEachLine}
 use Rattle.scenario_file.specs.Objects.{IsScenarioText, step_lines}
-use Rattle.scenario_file.proofs.Complaints.{nothing_is_good}
+use Rattle.scenario_file.proofs.Complaints.{nothing_is_good, same_lines}
+use Rattle.scenario_file.proofs.NamedSteps.{names_wrong_steps}
 use Rattle.scenario_file.proofs.checking.complaints.Goals as goal
 
 mapped : {X E : Type 0} (P Q : X → Type 0) (r : Result X E) → ((x : X) → P x → Q x) → IfOk r P → IfOk r Q
@@ -22,6 +23,10 @@ returns-in-Ok c =
     record {
       each = mapped _ _ c.bad_steps.result (λ found each. are found.items each) c.bad_steps.ensures;
       none = mapped _ _ c.bad_steps.result (λ found each. nothing_is_good text found.items (are found.items each)) c.bad_steps.ensures;
+      steps =
+          mapped _ _ c.bad_steps.result
+          (λ found each s is. names_wrong_steps s found.items (subst (λ lines. OfEachLine AreLineComplaints 1 lines found.items) (same_lines text c.in-Ok.scenario s c.in-Ok.ensures.ok is) each))
+          c.bad_steps.ensures;
     }
 
 pub returns-in_default : goal.returns-in_default
@@ -32,4 +37,5 @@ returns-in_default c =
     record {
       each = mapped _ _ c.bad_text.result (λ found one. are found.items one) c.bad_text.ensures;
       none = mapped _ _ c.bad_text.result (λ found one. nothing_is_good text found.items (are found.items one)) c.bad_text.ensures;
+      steps = mapped _ _ c.bad_text.result (λ found one s is. absurd (none s is)) c.bad_text.ensures;
     }
