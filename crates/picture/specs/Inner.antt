@@ -7,3 +7,4 @@ pub mod Records
 pub mod Labels
 pub mod Drawn
 pub mod Rows
+pub mod Layouts

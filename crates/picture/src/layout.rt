@@ -1,7 +1,8 @@
 //! Where everything stands, in pixels from the upper left corner.
-ghost use Rattle.std.specs.Prelude.{◌≡◌, ◌<◌, ◌≤◌, ◌+◌, ◌*◌, IfOk};
+ghost use Rattle.std.specs.Prelude.{◌≡◌, ◌<◌, ◌≤◌, ◌+◌, ◌*◌, IfOk, length, replicate, slice_get};
 ghost use Rattle.picture.specs.Inner.Positions.{down_by, up_by, aside_by, side_towards, opposite, distance, pitch, lifeline_x, column_x, row_y, point_at, slot_at, lifeline_top, lifeline_end, picture_width, picture_height, row_height, names_again, names_between};
-ghost use Rattle.picture.specs.Inner.Fans.{count_on, fan_at, fan_behind, fan_of, one_more_on, place_in};
+ghost use Rattle.picture.specs.Inner.Fans.{count_on, depth_of, fan_behind, fans_behind, no_fan, one_more_on, place_among, place_in};
+ghost use Rattle.picture.specs.Inner.Layouts.{AreFans, AreSlots, RowsFollow, RowsHold, top_below};
 
 use crate::record::{Record, Sending};
 use rows::NoMemory;
@@ -147,32 +148,16 @@ pub(crate) fn is_parted(from: usize, to: usize) -> bool
     from / BAND_EVERY < to / BAND_EVERY
 }
 
-// The lost messages of one event, on each side of its actor.
+// How many messages one event lost, on each side of its actor.
 #[derive(Clone, Copy)]
 struct Fan {
-    row: usize,
     left: u64,
     right: u64,
 }
 
 impl Fan {
     // None of them, so far.
-    fn at(row: usize) -> Fan
-        ensures { result ≡ fan_at row }
-    {
-        Fan {
-            row,
-            left: 0,
-            right: 0,
-        }
-    }
-
-    // Those of the event of this row: none so far, where it is another one.
-    fn of_row(self, row: usize) -> Fan
-        ensures { result ≡ fan_of self row }
-    {
-        if self.row == row { self } else { Fan::at(row) }
-    }
+    const NONE: Fan = Fan { left: 0, right: 0 };
 
     // How many there are on a side.
     fn count(self, side: Side) -> u64
@@ -190,16 +175,21 @@ impl Fan {
     {
         match side {
             Side::Left => Fan {
-                row: self.row,
                 left: self.left.saturating_add(1),
                 right: self.right,
             },
             Side::Right => Fan {
-                row: self.row,
                 left: self.left,
                 right: self.right.saturating_add(1),
             },
         }
+    }
+
+    // How many stand below each other, less one.
+    fn depth(self) -> u64
+        ensures { result ≡ depth_of self }
+    {
+        self.left.max(self.right).saturating_sub(1)
     }
 
     // Which of those on its side a message is, from 0; one that came is none of them.
@@ -207,11 +197,10 @@ impl Fan {
         ensures place { result ≡ place_in self.old sending.now }
         ensures fan { self.new ≡ fan_behind self.old sending.now }
     {
-        let fan = self.of_row(sending.row);
         if sending.came {
-            *self = fan;
             return 0;
         }
+        let fan = *self;
         let side = Side::towards(sending.from, sending.to);
         *self = fan.more(side);
         fan.count(side)
@@ -239,22 +228,20 @@ impl Layout {
     /// The layout of what is noted. Lifelines are as far apart as it is chosen for those that are
     /// drawn.
     pub(crate) fn new(alloc: Global, drawn: &Record) -> Result<Layout, NoMemory>
-        ensures { IfOk result (λ layout. layout.pitch ≡ pitch layout.shown) }
+        ensures pitch { IfOk result (λ layout. layout.pitch ≡ pitch layout.shown) }
+        ensures rows { IfOk result (λ layout. RowsHold drawn.now layout) }
+        ensures slots { IfOk result (λ layout. AreSlots (length drawn.now.steps.items)
+            drawn.now.sendings.items layout.slots.items) }
     {
-        let slots = slots_of(alloc, &drawn.sendings)?;
-        let depths = depths_of(alloc, drawn, &slots)?;
-        let tops = tops_of(alloc, &depths)?;
-        let last = match tops.last() {
-            Some(top) => *top,
-            None => FIRST_ROW,
-        };
-        let deepest = depths.last().copied().unwrap_or(0);
+        let (slots, fans) = slots_of(alloc, drawn.steps.len(), &drawn.sendings)?;
+        let (tops, end) = tops_of(alloc, &fans)?;
         let acted = acted_in(alloc, drawn)?;
         let (places, shown) = positions_of(alloc, &acted)?;
         Ok(Layout {
             tops,
             slots,
-            bottom: last.saturating_add(height_of(deepest)),
+            // A row has room below the names also where there is no event.
+            bottom: end.max(FIRST_ROW + ROW),
             shown,
             places,
             pitch: pitch_of(shown),
@@ -364,47 +351,71 @@ fn positions_of(alloc: Global, acted: &[bool]) -> Result<(Vec<Option<usize>>, us
     Ok((places, shown))
 }
 
-// Which of its event's lost messages on its side each message is.
-fn slots_of(alloc: Global, sendings: &[Sending]) -> Result<Vec<u64>, NoMemory> {
-    let mut fan = Fan::at(0);
+// Which of its event's lost messages on its side each message is, and how many each of so many events
+// lost.
+fn slots_of(
+    alloc: Global,
+    events: usize,
+    sendings: &[Sending],
+) -> Result<(Vec<u64>, Vec<Fan>), NoMemory>
+    ensures slots { IfOk result (λ both. AreSlots events sendings.now both.0.items) }
+    ensures fans { IfOk result (λ both. AreFans events sendings.now both.1.items) }
+{
+    let mut fans = no_fans(alloc, events)?;
     let mut slots = Vec::new(alloc);
     for sending in sendings {
-        slots.push(fan.place(sending))?;
+        slots.push(place_among(&mut fans, sending))?;
     }
-    Ok(slots)
+    Ok((slots, fans))
 }
 
-// How many lost messages stand below each other at each event, less one.
-fn depths_of(alloc: Global, drawn: &Record, slots: &[u64]) -> Result<Vec<u64>, NoMemory> {
-    let mut depths = nothing_at(alloc, drawn.steps.len())?;
-    for (sending, slot) in drawn.sendings.iter().zip(slots) {
-        if let Some(depth) = depths.get_mut(sending.row) {
-            *depth = (*depth).max(*slot);
-        }
+// So many events that lost nothing.
+fn no_fans(alloc: Global, events: usize) -> Result<Vec<Fan>, NoMemory>
+    ensures { IfOk result (λ fans. fans.items ≡ replicate events no_fan) }
+{
+    let mut fans = Vec::new(alloc);
+    for _ in 0..events {
+        fans.push(Fan::NONE)?;
     }
-    Ok(depths)
+    Ok(fans)
 }
 
-fn nothing_at(alloc: Global, rows: usize) -> Result<Vec<u64>, NoMemory> {
-    let mut depths = Vec::new(alloc);
-    for _ in 0..rows {
-        depths.push(0)?;
+// Which of its event's lost messages on its side a message is, which is now one of them.
+fn place_among(fans: &mut Vec<Fan>, sending: &Sending) -> u64
+    ensures place { result ≡ place_among (slice_get fans.old.items sending.now.row) sending.now }
+    ensures fans { fans.new.items
+        ≡ fans_behind fans.old.items sending.now (slice_get fans.old.items sending.now.row) }
+{
+    match fans.get_mut(sending.row) {
+        Some(fan) => fan.place(sending),
+        None => 0,
     }
-    Ok(depths)
 }
 
-// How far down each event stands.
-fn tops_of(alloc: Global, depths: &[u64]) -> Result<Vec<u64>, NoMemory> {
+// How far down each event stands, and where the last row ends.
+fn tops_of(alloc: Global, fans: &[Fan]) -> Result<(Vec<u64>, u64), NoMemory>
+    ensures { IfOk result (λ rows. RowsFollow fans.now rows.0.items rows.1) }
+{
     let mut tops = Vec::new(alloc);
-    let mut y = FIRST_ROW;
-    for (row, depth) in depths.iter().enumerate() {
-        if has_band(row) {
-            y = y.saturating_add(BAND);
-        }
-        tops.push(y)?;
-        y = y.saturating_add(height_of(*depth));
+    let mut end = FIRST_ROW;
+    for (row, fan) in fans.iter().enumerate() {
+        let top = top_below(end, row);
+        tops.push(top)?;
+        end = top.saturating_add(height_of(fan.depth()));
     }
-    Ok(tops)
+    Ok((tops, end))
+}
+
+// Where an event stands, below where the row before it ends: the names of the lifelines may stand
+// between.
+fn top_below(end: u64, row: usize) -> u64
+    ensures { result ≡ top_below end row }
+{
+    if has_band(row) {
+        end.saturating_add(BAND)
+    } else {
+        end
+    }
 }
 
 // How far the next event is from one with so many lost messages below each other, less one.

@@ -10,6 +10,7 @@ mod frames;
 mod group;
 mod lines;
 mod looks;
+mod moments;
 mod old;
 mod requests;
 mod said;
@@ -62,7 +63,8 @@ fn play_groups(rt: &HostRuntime) -> io::Result<()> {
     apart::servers(rt)?;
     old::starts(rt)?;
     crashes::crashes(rt)?;
-    looks::looks(rt)
+    looks::looks(rt)?;
+    moments::moments(rt)
 }
 
 fn main(rt: HostRuntime) -> io::Result<()> {

@@ -1,3 +1,3 @@
-pub mod KeptShapes
 pub mod Tellings
 pub mod Seats
+pub mod Expansions

@@ -1,5 +1,5 @@
 -- Words of private contracts.
 pub mod Faults
 pub mod Printed
-pub mod ThreadSteps
 pub mod Closed
+pub mod Actors

@@ -5,6 +5,7 @@
 
 mod drawing;
 mod expanding;
+mod frame;
 mod paging;
 pub mod program;
 mod script;
