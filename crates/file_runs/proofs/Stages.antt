@@ -1,15 +1,14 @@
 -- One more step of a scenario.
-use Rattle.std.proofs.Common.{◌≡◌, ◌+◌, ◌<◌, ◌++◌, ◌∷◌, ℕ, List, [], Option, String, get_or, inl, inr, length, map, refl, string_bytes, subst, suc, take}
+use Rattle.std.proofs.Common.{◌≡◌, ◌+◌, ◌<◌, ◌++◌, ◌∷◌, ℕ, List, [], Option, String, get_or, inl, inr, length, map, refl, string_bytes, subst, take}
 use Rattle.std.specs.Io.KnownBytes.{Appends}
 use Rattle.std.specs.declared.alloc.Global.{Global}
 use Rattle.std.proofs.lemmas.List.{append-nil}
 use Rattle.rows.specs.declared.refusal.Refusal.{Refusal}
-use Rattle.scenario_file.specs.EachLine.{OfEachLine}
 use Rattle.scenario_file.specs.Steps.{IsLine, Step}
-use Rattle.playing.specs.Played.{LinePlayed, LinesPlayed, Refused}
+use Rattle.playing.specs.Played.{LinesPlayed}
 use Rattle.playing.proofs.Steps.{one_more_line, one_more_played}
-use Rattle.file_runs.specs.Refusals.{MayRefuse, refusal_line}
-use Rattle.file_runs.specs.Plays.{TellsLines, TellsSteps}
+use Rattle.file_runs.specs.Refusals.{refusal_line}
+use Rattle.file_runs.specs.Plays.{TellsLines}
 use Rattle.file_runs.proofs.Refusals.{one_more_refused}
 
 module _ {S : Type 0} (Takes : Step → S → S → Type 0) (Refuses : Step → S → Refusal → S → Type 0) where
@@ -34,20 +33,3 @@ module _ {S : Type 0} (Takes : Step → S → S → Type 0) (Refuses : Step → 
               (record { step = step; named = named; became = inr (refusal, refuses, refl) }),
           one_more_refused refused status (refusal, string_bytes line) before between after told more,
         )
-
-  -- ---- of each line nothing is refused, or the line, once
-
-  may_refuse : (k : ℕ) (line : List ℕ) (old new : S) (refused : List Refused) → LinePlayed Takes Refuses line old refused new → MayRefuse k line refused
-  may_refuse k line old new refused played =
-      elim played.became [
-        | inl taken ↦ inl taken.1
-        | inr refuses ↦ inr (refuses.0, refuses.2)
-      ]
-
-  pub each_may_refuse : (k : ℕ) (lines : List (List ℕ)) (old new : S) (refused : List Refused) → LinesPlayed Takes Refuses lines old refused new → OfEachLine MayRefuse k lines refused
-  each_may_refuse k [] old new refused played = played.0
-  each_may_refuse k (line ∷ lines) old new refused played =
-      (played.0, played.1, played.3, may_refuse k line old played.2 played.0 played.4, each_may_refuse (suc k) lines played.2 new played.1 played.5)
-
-  pub lines_tell_steps : (lines : List (List ℕ)) (old new : S) (status : ℕ) (before after : Option (List ℕ)) → TellsLines Takes Refuses lines old new status before after → TellsSteps lines status before after
-  lines_tell_steps lines old new status before after told = (told.0, each_may_refuse 1 lines old new told.0 told.1, told.2)

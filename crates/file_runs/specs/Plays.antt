@@ -5,14 +5,13 @@ use Rattle.event_texts.specs.Transcripts.{IsTranscript}
 use Rattle.transcript.specs.Records.{record_of}
 use Rattle.scenario_file.specs.declared.scenario.Scenario.{Scenario}
 use Rattle.scenario_file.specs.Complaints.{IsGood}
-use Rattle.scenario_file.specs.EachLine.{OfEachLine}
 use Rattle.scenario_file.specs.Objects.{IsScenarioText, step_lines}
 use Rattle.scenario_file.specs.Steps.{Step}
 use Rattle.playing.specs.declared.play.Play.{Play}
 use Rattle.playing.specs.Played.{LinesPlayed, Refused}
 use Rattle.playing.specs.PlaySteps.{StepRefused, StepTaken}
 use Rattle.playing.specs.Plays.{IsNewPlay}
-use Rattle.file_runs.specs.Refusals.{MayRefuse, TellsRefusals, TellsRun}
+use Rattle.file_runs.specs.Refusals.{TellsRefusals, TellsRun}
 
 -- ---- on a stage, of which it is known what a step does that is taken, and what one that is refused
 
@@ -21,11 +20,6 @@ module _ {S : Type 0} (Takes : Step → S → S → Type 0) (Refuses : Step → 
   abbrev pub TellsLines : List (List ℕ) → S → S → ℕ → Option (List ℕ) → Option (List ℕ) → Type 0
   TellsLines lines first last status old new =
       (refused : List Refused) × LinesPlayed Takes Refuses lines first refused last × TellsRefusals refused status old new
-
--- whatever the steps did, the output grows by the lines of what is refused of these lines
-abbrev pub TellsSteps : List (List ℕ) → ℕ → Option (List ℕ) → Option (List ℕ) → Type 0
-TellsSteps lines status old new =
-    (refused : List Refused) × OfEachLine MayRefuse 1 lines refused × TellsRefusals refused status old new
 
 -- ---- on a group and its messages in flight
 

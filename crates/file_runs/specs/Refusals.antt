@@ -1,5 +1,5 @@
 -- What is told of what is refused.
-use Rattle.std.specs.Prelude.{◌≡◌, ◌⊎◌, ◌++◌, ◌∷◌, ℕ, List, [], Option, codes, decimal}
+use Rattle.std.specs.Prelude.{◌≡◌, ◌++◌, ◌∷◌, ℕ, List, [], Option, codes, decimal}
 use Rattle.std.specs.Io.KnownBytes.{Appends}
 use Rattle.std.specs.List.{flat_map}
 use Rattle.rows.specs.Refusals.{number_of}
@@ -29,8 +29,3 @@ TellsRefusals refused status old new =
 abbrev pub TellsRun : List Refused → GroupView → ℕ → Option (List ℕ) → Option (List ℕ) → Type 0
 TellsRun refused group status old new =
     (between : Option (List ℕ)) × TellsRefusals refused status old between × TellsEnding group between new
-
--- what is refused of a line: nothing, or the line, once
-abbrev pub MayRefuse : ℕ → List ℕ → List Refused → Type 0
-MayRefuse number line refused =
-    (refused ≡ []) ⊎ ((refusal : Refusal) × (refused ≡ (refusal, line) ∷ []))

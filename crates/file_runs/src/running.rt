@@ -14,7 +14,7 @@ ghost use Rattle.file_runs.specs.declared.fault.Fault.TheVariants as faults;
 ghost use Rattle.file_runs.specs.Faults.{IsOfRun, IsPastReading, MayStopReading};
 ghost use Rattle.file_runs.specs.Inner.Files.{IsScenarioFile};
 ghost use Rattle.playing.specs.Plays.{IsNewPlay, MakesGroup};
-ghost use Rattle.file_runs.specs.Plays.{TellsLines, TellsPlay, TellsSteps};
+ghost use Rattle.file_runs.specs.Plays.{TellsLines, TellsPlay};
 ghost use Rattle.file_runs.specs.Refusals.{refusal_line};
 
 use crate::fault::{Fault, said};
@@ -66,8 +66,6 @@ pub fn play_steps<'a, W: Write, S: Stage>(
     ensures quiet { IfOk result (λ status. status ≡ 0 → out.new ≡ out.old) }
     ensures told { IfOk result (λ status. TellsLines S.Takes S.Refuses (step_lines scenario.now)
         stage.old stage.new status (W.contents out.old) (W.contents out.new)) }
-    ensures some { IfOk result (λ status. TellsSteps (step_lines scenario.now) status
-        (W.contents out.old) (W.contents out.new)) }
     ensures past { IfErr result (λ fault. IsGood scenario.now → IsPastReading fault) }
     ensures of_run { IfErr result IsOfRun }
 {

@@ -274,6 +274,13 @@ impl<B: BookId, G: Gate + Drop> RunningGroup<B, G> {
         self.lost.load(Ordering::SeqCst)
     }
 
+    /// How often the workers of a server were called so far, modulo 2^64: once by each turn of the
+    /// server, once more where something waits for them after it, and once where the threads were
+    /// stopped. Other threads change the number, so no clause says what it is.
+    pub fn worker_calls(&self, server: ServerId) -> u64 {
+        self.servers[server.position()].turned.rings()
+    }
+
     // What comes of a turn goes where it belongs. The workers of a server look again. Messages that
     // found no memory are lost.
     fn settle<R: Wait>(&self, rt: &R, actor: Actor, turned: CellTurn<B>) {

@@ -1,2 +1,3 @@
-pub mod LineTexts
+pub mod Applied
+pub mod Falls
 pub mod Zips

@@ -1,4 +1,7 @@
 -- Words of private contracts.
-pub mod Taking
 pub mod Findings
+pub mod Applied
+pub mod Clients
 pub mod Deliveries
+pub mod Reports
+pub mod StateRows

@@ -1,5 +1,5 @@
 //! The commands of a log, in words.
-use crate::shown::{eval_text, status_word};
+use labels::{eval_text, status_word};
 use report_lines::owned;
 use rows::{
     AcceptedPlan, AllocId, Command, JobSpec, NoMemory, NodeSpec, ReportedState, Reports, RisingIds,

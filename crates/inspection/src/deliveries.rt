@@ -1,63 +1,120 @@
-//! The deliveries that a server sent, as its messages tell.
+//! The deliveries that servers sent, as their messages tell.
 ghost use Rattle.std.specs.Prelude.{◌≡◌, None, fold};
 ghost use Rattle.inspection.specs.Inner.Deliveries.{later};
 
 use fsm_state::Cluster;
-use rows::{Actor, Delivery, EvalId, NoMemory, Refusal, WorkerResponse};
+use rows::{Actor, Delivery, EvalId, NoMemory, Refusal, ServerId, WorkerResponse};
 use server::Server;
 use std::alloc::Global;
-use wire::{Body, Frames, read_message};
+use wire::{Body, Frames, Message, read_message};
 
-/// A delivery that a message told of, and the number of the server to which it was sent.
+/// A delivery that a message told of: who sent it, and the number of the server to which it was
+/// sent.
 #[derive(Clone, Copy)]
 pub(crate) struct Sent {
+    /// Who sent it.
+    pub from: ServerId,
     /// The delivery.
     pub delivery: Delivery,
-    /// The server's number.
+    /// The number of the server to which it was sent.
     pub to: u8,
 }
 
-/// The deliveries that a server sent in its term, in order.
-pub(crate) fn sent_deliveries(
-    alloc: Global,
-    server: &Server,
-    sent: &Frames,
-) -> Result<Vec<Sent>, NoMemory> {
-    let mut found = Vec::new(alloc);
-    for place in 0..sent.len() {
-        if let Some(delivery) = delivery_at(alloc, server, sent, place)? {
-            found.push(delivery)?;
-        }
-    }
-    Ok(found)
+/// The deliveries of all messages, in order. No message is read twice.
+#[derive(Drop)]
+pub(crate) struct Deliveries {
+    /// Of each message that was read, whether it may replace what a server stores.
+    replacing: Vec<bool>,
+    /// The deliveries that they told of.
+    sent: Vec<Sent>,
 }
 
-fn delivery_at(
-    alloc: Global,
-    server: &Server,
-    sent: &Frames,
-    place: usize,
-) -> Result<Option<Sent>, NoMemory> {
-    let Some(frame) = sent.get(place) else {
-        return Ok(None);
-    };
-    let message = match read_message::<Cluster>(alloc, frame.bytes()) {
-        Ok(message) => message,
-        Err(Refusal::NoMemory) => return Err(NoMemory),
-        Err(_) => return Ok(None),
-    };
-    let is_own = message.from() == Actor::Server(server.me());
-    let Body::Response(WorkerResponse::Delivered(Some(delivery))) = message.body() else {
-        return Ok(None);
-    };
-    let Actor::Server(to) = message.to() else {
-        return Ok(None);
-    };
-    if is_own && delivery.token.term.get() == server.term().get() {
-        let (delivery, to) = (*delivery, to.number());
-        return Ok(Some(Sent { delivery, to }));
+impl Deliveries {
+    /// No message was read.
+    pub fn new(alloc: Global) -> Deliveries {
+        Deliveries {
+            replacing: Vec::new(alloc),
+            sent: Vec::new(alloc),
+        }
     }
-    Ok(None)
+
+    /// Reads the messages behind those that were read.
+    pub fn read(&mut self, alloc: Global, messages: &Frames) -> Result<(), NoMemory> {
+        for place in self.replacing.len()..messages.len() {
+            self.read_one(message_at(alloc, messages, place)?)?;
+        }
+        Ok(())
+    }
+
+    fn read_one(&mut self, message: Option<Message<Cluster>>) -> Result<(), NoMemory> {
+        let Some(message) = message else {
+            self.replacing.push(false)?;
+            return Ok(());
+        };
+        self.replacing.push(replaces(message.body()))?;
+        if let Some(sent) = sent_by(&message) {
+            self.sent.push(sent)?;
+        }
+        Ok(())
+    }
+
+    /// Whether the k-th message, from 1, may replace what its receiver stores, where neither the
+    /// receiver's term nor its last index changes.
+    pub fn may_replace(&self, k: u64) -> bool {
+        match k.checked_sub(1) {
+            Some(place) => self.replacing.get(place as usize) == Some(&true),
+            None => false,
+        }
+    }
+
+    /// Those that a server sent in its term.
+    pub fn of_server(&self, alloc: Global, server: &Server) -> Result<Vec<Sent>, NoMemory> {
+        let (me, term) = (server.me(), server.term());
+        let mut own = Vec::new(alloc);
+        for one in &self.sent {
+            if one.from == me && one.delivery.token.term.get() == term.get() {
+                own.push(*one)?;
+            }
+        }
+        Ok(own)
+    }
+}
+
+// The message at a place, if it is one.
+fn message_at(
+    alloc: Global,
+    messages: &Frames,
+    place: usize,
+) -> Result<Option<Message<Cluster>>, NoMemory> {
+    let Some(frame) = messages.get(place) else {
+        return Ok(None);
+    };
+    match read_message::<Cluster>(alloc, frame.bytes()) {
+        Ok(message) => Ok(Some(message)),
+        Err(Refusal::NoMemory) => Err(NoMemory),
+        Err(_) => Ok(None),
+    }
+}
+
+// The delivery that a message tells of, if it is one.
+fn sent_by(message: &Message<Cluster>) -> Option<Sent> {
+    let Body::Response(WorkerResponse::Delivered(Some(delivery))) = message.body() else {
+        return None;
+    };
+    let (Actor::Server(from), Actor::Server(to)) = (message.from(), message.to()) else {
+        return None;
+    };
+    let (delivery, to) = (*delivery, to.number());
+    Some(Sent { from, delivery, to })
+}
+
+// A vote is given, entries come in the place of others, or a state in that of entries.
+fn replaces(body: &Body<Cluster>) -> bool {
+    match body {
+        Body::VoteRequest(_) | Body::Install(_) => true,
+        Body::Append(append) => !append.entries().is_empty(),
+        _ => false,
+    }
 }
 
 /// The last delivery of an evaluation among these.

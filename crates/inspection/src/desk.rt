@@ -5,24 +5,23 @@ ghost use Rattle.cluster_model.specs.Words.{same_eval};
 ghost use Rattle.group_model.specs.Brokers.{task_of};
 ghost use Rattle.inspection.specs.Inner.Deliveries.{delivery_word};
 
-use crate::deliveries::{Sent, last_of, sent_deliveries};
-use crate::shown::{eval_text, token_text};
+use crate::deliveries::{Deliveries, Sent, last_of};
 use eval_broker::Broker;
 use fsm_state::Cluster;
 use inspection_reports::{BeatReport, BlockedReport, DeliveryReport, DeskReport, PlanReport};
+use labels::{eval_text, token_text};
 use leader::Desk;
 use plan_queue::QueuedPlan;
 use raft_core::Role;
 use rows::{EvalId, EvalStatus, Evaluation, NoMemory};
 use server::Server;
 use std::alloc::Global;
-use wire::Frames;
 
 /// The desk of a server, if that leads.
 pub(crate) fn desk_report(
     alloc: Global,
     server: &Server,
-    sent: &Frames,
+    sent: &Deliveries,
 ) -> Result<Option<DeskReport>, NoMemory> {
     let (Some(Role::Leader), Some(state)) = (server.role(), server.state()) else {
         return Ok(None);
@@ -44,13 +43,13 @@ fn given_out(
     alloc: Global,
     server: &Server,
     state: &Cluster,
-    sent: &Frames,
+    sent: &Deliveries,
 ) -> Result<Vec<DeliveryReport>, NoMemory> {
     let mut reports = Vec::new(alloc);
     let Some(broker) = server.desk().broker() else {
         return Ok(reports);
     };
-    let sent = sent_deliveries(alloc, server, sent)?;
+    let sent = sent.of_server(alloc, server)?;
     for row in state.eval_table().rows() {
         if let Some(report) = delivery(alloc, row.id, broker, &sent)? {
             reports.push(report)?;
@@ -67,12 +66,12 @@ fn delivery(
     sent: &[Sent],
 ) -> Result<Option<DeliveryReport>, NoMemory> {
     let times = broker.deliveries(eval).unwrap_or(0);
-    let Some(last) = last_of(eval, sent) else {
-        return Ok(None);
-    };
     if times == 0 {
         return Ok(None);
     }
+    let Some(last) = last_of(eval, sent) else {
+        return Ok(None);
+    };
     let to = last.to;
     Ok(Some(DeliveryReport {
         evaluation: eval_text(alloc, &eval)?,

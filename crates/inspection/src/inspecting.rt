@@ -6,9 +6,10 @@ ghost use Rattle.inspection.specs.declared.fault.InspectError.TheVariants as err
 
 use crate::fault::InspectError;
 use crate::gathering::gather;
-use crate::group::{begin, print_lines, take};
+use crate::group::{begin, print_lines};
 use group_inputs::Event;
 use inspection_reports::Report;
+use playback::take;
 use report_lines::report_lines;
 use rows::{NoMemory, NodeSpec};
 use std::alloc::Global;

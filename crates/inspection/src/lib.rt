@@ -1,8 +1,7 @@
-//! How a group stands after some of a run's events, as a text or as JSON; and what each event did,
-//! a line an event.
+//! How a group stands after some of a run's events, as a text or as JSON.
 #![tactic(auto)]
 
-mod changes;
+mod applied;
 mod commands;
 mod deliveries;
 mod desk;
@@ -13,12 +12,9 @@ mod group;
 mod inspecting;
 mod metrics;
 mod moments;
-mod shown;
-mod standing;
 mod states;
-mod telling;
 
 pub use fault::InspectError;
 pub use inspecting::{Form, inspect};
-pub use moments::{Moments, each_moment};
-pub use telling::{event_lines, tell};
+pub use moments::each_moment;
+pub use report_lines::{Change, Moments};

@@ -3,26 +3,24 @@ ghost use Rattle.std.specs.Prelude.{◌≡◌, ◌≢◌, ◌+◌, length, IfErr
 ghost use Rattle.labels.specs.Groups.{MayBe, MayNotBe};
 ghost use Rattle.inspection.specs.declared.fault.InspectError.TheVariants as errors;
 
+use crate::applied::standing;
+use crate::deliveries::Deliveries;
+use crate::entries::renew_server;
 use crate::fault::InspectError;
-use crate::gathering::gather;
-use crate::group::{begin, take};
-use group_inputs::Event;
-use report_lines::report_lines;
-use rows::{NoMemory, NodeSpec};
+use crate::gathering::{client_report, clients, desks, servers, state_after};
+use crate::group::begin;
+use group_inputs::{Event, ServerInput};
+use inspection_reports::{ClientReport, ServerReport};
+use labels::role_word;
+use playback::take;
+use raft_core::Role;
+use report_lines::{Moments, Recorder, Standing};
+use rows::{Actor, ClientId, NoMemory, NodeSpec, ServerId};
 use std::alloc::Global;
 use world::World;
 
-/// How a group stands at each moment of a run: what `inspect` tells before the first event, and
-/// behind each of them. A line that stays from one moment to the next stands once.
-#[derive(Drop)]
-pub struct Moments {
-    /// The lines.
-    pub lines: Vec<String>,
-    /// Of each moment the places of its lines among these, from 0, in order.
-    pub moments: Vec<Vec<usize>>,
-}
-
-/// How a group that takes these events from its beginning stands at each moment.
+/// How a group that takes these events from its beginning stands at each moment: what `inspect`
+/// tells before the first event, and behind each of them.
 ///
 /// It is refused with `Group` where there is no such group, and with `NoMemory`.
 pub fn each_moment(
@@ -48,82 +46,163 @@ fn moments_of(alloc: Global, world: World, events: &[Event]) -> Result<Moments, 
     ensures { IfOk result (λ m. length m.moments.items ≡ length events.now + 1) }
 {
     let mut world = world;
-    let mut found = Moments::new(alloc);
+    let mut recorder = Recorder::new(alloc)?;
+    let mut seen = Seen::of(alloc, &world, &mut recorder)?;
     let mut number = 0usize;
-    found.put(alloc, moment(alloc, &world, number, events.len())?)?;
+    recorder.record(alloc, number, events.len(), world.sent().len())?;
     for event in events {
         number = number.saturating_add(1);
-        let _refusal = take(&mut world, event.try_clone(alloc)?)?;
-        found.put(alloc, moment(alloc, &world, number, events.len())?)?;
+        seen.take(alloc, &mut world, &mut recorder, event)?;
+        recorder.record(alloc, number, events.len(), world.sent().len())?;
     }
-    Ok(found)
+    Ok(recorder.into_moments())
 }
 
-// The lines of a group as it stands after so many of so many events.
-fn moment(
+// What was seen of a group last.
+#[derive(Drop)]
+struct Seen {
+    servers: Vec<ServerReport>,
+    clients: Vec<ClientReport>,
+    sent: Deliveries,
+}
+
+impl Seen {
+    // A group that is seen for the first time.
+    fn of(alloc: Global, world: &World, recorder: &mut Recorder) -> Result<Seen, NoMemory>
+        ensures { recorder.new ≡ recorder.old }
+    {
+        let seen = Seen {
+            servers: servers(alloc, world)?,
+            clients: clients(alloc, world)?,
+            sent: Deliveries::new(alloc),
+        };
+        recorder.put_servers(alloc, &seen.servers)?;
+        recorder.put_logs(alloc, &seen.servers)?;
+        recorder.put_clients(alloc, &seen.clients)?;
+        put_states(alloc, world, recorder)?;
+        Ok(seen)
+    }
+
+    // The group takes an event. What the event can't have changed is not looked at anew: it is one
+    // actor's, and one that is refused changes nothing.
+    fn take(
+        &mut self,
+        alloc: Global,
+        world: &mut World,
+        recorder: &mut Recorder,
+        event: &Event,
+    ) -> Result<(), NoMemory>
+        ensures { recorder.new ≡ recorder.old }
+    {
+        let actor = actor_of(world, event);
+        let refusal = take(world, event.try_clone(alloc)?)?;
+        if refusal.is_some() {
+            return Ok(());
+        }
+        match actor {
+            Some(Actor::Server(id)) => self.look_at_server(alloc, world, recorder, id, event),
+            Some(Actor::Client(id)) => self.look_at_client(alloc, world, recorder, id),
+            None => Ok(()),
+        }
+    }
+
+    fn look_at_server(
+        &mut self,
+        alloc: Global,
+        world: &World,
+        recorder: &mut Recorder,
+        id: ServerId,
+        event: &Event,
+    ) -> Result<(), NoMemory>
+        ensures { recorder.new ≡ recorder.old }
+    {
+        self.sent.read(alloc, world.sent())?;
+        let may_replace = may_replace(event, &self.sent);
+        let (Some(server), Some(report)) = (world.server(id), self.servers.get_mut(id.position()))
+        else {
+            return Ok(());
+        };
+        let led = is_leader(report);
+        let is_new_log = renew_server(alloc, server, report, may_replace)?;
+        let leads = is_leader(report);
+        recorder.put_servers(alloc, &self.servers)?;
+        if is_new_log {
+            recorder.put_logs(alloc, &self.servers)?;
+        }
+        if led || leads {
+            recorder.put_desks(alloc, &desks(alloc, world, &self.sent)?)?;
+        }
+        put_states(alloc, world, recorder)
+    }
+
+    fn look_at_client(
+        &mut self,
+        alloc: Global,
+        world: &World,
+        recorder: &mut Recorder,
+        id: ClientId,
+    ) -> Result<(), NoMemory>
+        ensures { recorder.new ≡ recorder.old }
+    {
+        let place = usize::from(id.number() - 1);
+        let (Some(client), Some(report)) = (world.client(id), self.clients.get_mut(place)) else {
+            return Ok(());
+        };
+        *report = client_report(alloc, client)?;
+        recorder.put_clients(alloc, &self.clients)
+    }
+}
+
+// The states that servers have applied.
+fn put_states(alloc: Global, world: &World, recorder: &mut Recorder) -> Result<(), NoMemory>
+    ensures { recorder.new ≡ recorder.old }
+{
+    let all = standing(alloc, world)?;
+    for one in &all {
+        put_new_state(alloc, world, recorder, one)?;
+    }
+    recorder.put_standing(alloc, &all)
+}
+
+// A state, if it was not put yet.
+fn put_new_state(
     alloc: Global,
     world: &World,
-    after: usize,
-    events: usize,
-) -> Result<Vec<String>, NoMemory> {
-    report_lines(alloc, &gather(alloc, world, after, events)?)
+    recorder: &mut Recorder,
+    one: &Standing,
+) -> Result<(), NoMemory>
+    ensures { recorder.new ≡ recorder.old }
+{
+    if recorder.has_state(one.applied) {
+        return Ok(());
+    }
+    match state_after(alloc, world, one)? {
+        Some(state) => recorder.put_state(alloc, &state),
+        None => Ok(()),
+    }
 }
 
-impl Moments {
-    // No moment.
-    fn new(alloc: Global) -> Moments
-        ensures { length result.moments.items ≡ 0 }
-    {
-        Moments {
-            lines: Vec::new(alloc),
-            moments: Vec::new(alloc),
+// Who takes an event.
+fn actor_of(world: &World, event: &Event) -> Option<Actor> {
+    match event {
+        Event::Deliver(number) => world.receiver(*number),
+        Event::Server(id, _) => Some(Actor::Server(*id)),
+        Event::Client(id, _) => Some(Actor::Client(*id)),
+    }
+}
+
+// Whether an event may replace what a server stores, where neither its term nor its last index
+// changes.
+fn may_replace(event: &Event, sent: &Deliveries) -> bool {
+    match event {
+        Event::Deliver(number) => sent.may_replace(*number),
+        Event::Server(_, input) => {
+            matches!(input.as_ref(), ServerInput::Compact | ServerInput::Frame(_))
         }
+        Event::Client(..) => false,
     }
+}
 
-    // One moment more, of these lines.
-    fn put(&mut self, alloc: Global, lines: Vec<String>) -> Result<(), NoMemory>
-        ensures { OnOk result
-            (length self.new.moments.items ≡ length self.old.moments.items + 1) }
-    {
-        let places = self.positions_of(alloc, lines)?;
-        self.moments.push(places)?;
-        Ok(())
-    }
-
-    // The places of lines, which are put where the last moment has none of them.
-    fn positions_of(&mut self, alloc: Global, lines: Vec<String>) -> Result<Vec<usize>, NoMemory>
-        ensures { length self.new.moments.items ≡ length self.old.moments.items }
-    {
-        let mut places = Vec::new(alloc);
-        for line in lines {
-            places.push(self.position_of(line)?)?;
-        }
-        Ok(places)
-    }
-
-    fn position_of(&mut self, line: String) -> Result<usize, NoMemory>
-        ensures { length self.new.moments.items ≡ length self.old.moments.items }
-    {
-        match self.found(line.as_str()) {
-            Some(place) => Ok(place),
-            None => {
-                let place = self.lines.len();
-                self.lines.push(line)?;
-                Ok(place)
-            }
-        }
-    }
-
-    // Where a line stands, if the last moment has it.
-    fn found(&self, line: &str) -> Option<usize> {
-        let last = self.moments.last()?;
-        last.iter().copied().find(|place| self.is_at(*place, line))
-    }
-
-    fn is_at(&self, place: usize, line: &str) -> bool {
-        match self.lines.get(place) {
-            Some(own) => own.as_str() == line,
-            None => false,
-        }
-    }
+fn is_leader(report: &ServerReport) -> bool {
+    report.role == role_word(Some(Role::Leader))
 }

@@ -1,11 +1,15 @@
 //! The tables of a state.
+ghost use Rattle.std.specs.Prelude.{◌≡◌, IfOk};
+ghost use Rattle.std.specs.List.{AllZip};
+ghost use Rattle.inspection.specs.Inner.StateRows.{IsGroupReport, IsJobReport, IsNodeReport, IsEvaluationReport, IsAllocationReport, IsStateReport};
+
 use crate::metrics::placements;
-use crate::shown::{
-    alloc_text, client_word, desired_word, drain_word, eval_text, name_text, node_word, status_word,
-};
 use fsm_state::Cluster;
 use inspection_reports::{
     AllocationReport, EvaluationReport, GroupReport, JobReport, NodeReport, StateReport,
+};
+use labels::{
+    alloc_text, client_word, desired_word, drain_word, eval_text, name_text, node_word, status_word,
 };
 use report_lines::owned;
 use rows::{Allocation, Evaluation, Group, Job, NoMemory, Node};
@@ -16,7 +20,10 @@ pub(crate) fn state_report(
     alloc: Global,
     state: &Cluster,
     servers: Vec<u8>,
-) -> Result<StateReport, NoMemory> {
+) -> Result<StateReport, NoMemory>
+    ensures state { IfOk result (IsStateReport state.now) }
+    ensures servers { IfOk result (λ report. report.servers ≡ servers) }
+{
     Ok(StateReport {
         applied: state.applied().get(),
         servers,
@@ -27,7 +34,9 @@ pub(crate) fn state_report(
     })
 }
 
-fn jobs(alloc: Global, state: &Cluster) -> Result<Vec<JobReport>, NoMemory> {
+fn jobs(alloc: Global, state: &Cluster) -> Result<Vec<JobReport>, NoMemory>
+    ensures { IfOk result (λ reports. AllZip IsJobReport state.now.jobs reports.items) }
+{
     let mut reports = Vec::new(alloc);
     for row in state.job_table().rows() {
         reports.push(job(alloc, row)?)?;
@@ -35,11 +44,10 @@ fn jobs(alloc: Global, state: &Cluster) -> Result<Vec<JobReport>, NoMemory> {
     Ok(reports)
 }
 
-fn job(alloc: Global, row: &Job) -> Result<JobReport, NoMemory> {
-    let mut groups = Vec::new(alloc);
-    for row in row.groups.as_slice() {
-        groups.push(group(alloc, row)?)?;
-    }
+fn job(alloc: Global, row: &Job) -> Result<JobReport, NoMemory>
+    ensures { IfOk result (IsJobReport row.now) }
+{
+    let groups = groups(alloc, row)?;
     Ok(JobReport {
         job: owned(alloc, row.name.as_str())?,
         priority: row.priority.get(),
@@ -49,7 +57,20 @@ fn job(alloc: Global, row: &Job) -> Result<JobReport, NoMemory> {
     })
 }
 
-fn group(alloc: Global, row: &Group) -> Result<GroupReport, NoMemory> {
+// The groups of a job, in their order.
+fn groups(alloc: Global, job: &Job) -> Result<Vec<GroupReport>, NoMemory>
+    ensures { IfOk result (λ reports. AllZip IsGroupReport job.now.groups reports.items) }
+{
+    let mut reports = Vec::new(alloc);
+    for row in job.groups.as_slice() {
+        reports.push(group(alloc, row)?)?;
+    }
+    Ok(reports)
+}
+
+fn group(alloc: Global, row: &Group) -> Result<GroupReport, NoMemory>
+    ensures { IfOk result (IsGroupReport row.now) }
+{
     Ok(GroupReport {
         group: owned(alloc, row.name.as_str())?,
         count: row.count.get(),
@@ -60,7 +81,10 @@ fn group(alloc: Global, row: &Group) -> Result<GroupReport, NoMemory> {
     })
 }
 
-fn nodes(alloc: Global, state: &Cluster) -> Result<Vec<NodeReport>, NoMemory> {
+fn nodes(alloc: Global, state: &Cluster) -> Result<Vec<NodeReport>, NoMemory>
+    ensures { IfOk result (λ reports.
+        AllZip (IsNodeReport state.now) state.now.nodes reports.items) }
+{
     let mut reports = Vec::new(alloc);
     for row in state.node_table().rows() {
         reports.push(node(alloc, state, row)?)?;
@@ -68,7 +92,9 @@ fn nodes(alloc: Global, state: &Cluster) -> Result<Vec<NodeReport>, NoMemory> {
     Ok(reports)
 }
 
-fn node(alloc: Global, state: &Cluster, row: &Node) -> Result<NodeReport, NoMemory> {
+fn node(alloc: Global, state: &Cluster, row: &Node) -> Result<NodeReport, NoMemory>
+    ensures { IfOk result (IsNodeReport state.now row.now) }
+{
     let used = state.used(row.number);
     Ok(NodeReport {
         node: row.number.number(),
@@ -85,7 +111,10 @@ fn node(alloc: Global, state: &Cluster, row: &Node) -> Result<NodeReport, NoMemo
     })
 }
 
-fn evaluations(alloc: Global, state: &Cluster) -> Result<Vec<EvaluationReport>, NoMemory> {
+fn evaluations(alloc: Global, state: &Cluster) -> Result<Vec<EvaluationReport>, NoMemory>
+    ensures { IfOk result (λ reports.
+        AllZip (IsEvaluationReport state.now) state.now.evals reports.items) }
+{
     let mut reports = Vec::new(alloc);
     for row in state.eval_table().rows() {
         reports.push(evaluation(alloc, state, row)?)?;
@@ -97,7 +126,9 @@ fn evaluation(
     alloc: Global,
     state: &Cluster,
     row: &Evaluation,
-) -> Result<EvaluationReport, NoMemory> {
+) -> Result<EvaluationReport, NoMemory>
+    ensures { IfOk result (IsEvaluationReport state.now row.now) }
+{
     Ok(EvaluationReport {
         evaluation: eval_text(alloc, &row.id)?,
         job: owned(alloc, row.job.as_str())?,
@@ -108,7 +139,9 @@ fn evaluation(
     })
 }
 
-fn allocations(alloc: Global, state: &Cluster) -> Result<Vec<AllocationReport>, NoMemory> {
+fn allocations(alloc: Global, state: &Cluster) -> Result<Vec<AllocationReport>, NoMemory>
+    ensures { IfOk result (λ reports. AllZip IsAllocationReport state.now.allocs reports.items) }
+{
     let mut reports = Vec::new(alloc);
     for row in state.alloc_table().rows() {
         reports.push(allocation(alloc, row)?)?;
@@ -116,7 +149,9 @@ fn allocations(alloc: Global, state: &Cluster) -> Result<Vec<AllocationReport>, 
     Ok(reports)
 }
 
-fn allocation(alloc: Global, row: &Allocation) -> Result<AllocationReport, NoMemory> {
+fn allocation(alloc: Global, row: &Allocation) -> Result<AllocationReport, NoMemory>
+    ensures { IfOk result (IsAllocationReport row.now) }
+{
     Ok(AllocationReport {
         allocation: alloc_text(alloc, &row.id)?,
         name: name_text(alloc, row)?,

@@ -6,6 +6,14 @@ ghost use Rattle.picture.specs.Pictures.{shown_byte};
 use rows::NoMemory;
 use std::alloc::Global;
 
+/// All of a text, as it stands between tags: what is no character of ASCII, or can't be seen, is
+/// shown by a question mark.
+pub fn all_escaped(alloc: Global, text: &str) -> Result<String, NoMemory>
+    ensures { IfOk result (λ told. string_bytes told ≡ flat_map shown_byte text.now) }
+{
+    escaped(alloc, text, text.len())
+}
+
 /// The front of a text, of so many bytes at most, as it stands between tags.
 pub(crate) fn escaped(alloc: Global, text: &str, most: usize) -> Result<String, NoMemory>
     ensures { IfOk result (λ written.

@@ -15,4 +15,5 @@ mod shape;
 mod svg;
 
 pub use drawing::{draw, picture};
+pub use escape::all_escaped;
 pub use fault::DrawError;

@@ -1,10 +1,8 @@
 //! The picture, written: each element a line of SVG 1.1.
 ghost use Rattle.std.specs.Prelude.{◌≡◌, ◌++◌, OnOk, IfOk, string_bytes};
-ghost use Rattle.std.specs.List.{flat_map};
-ghost use Rattle.picture.specs.Pictures.{shown_byte};
 ghost use Rattle.picture.specs.Inner.Shapes.{text_of, head_text, open_text, title_text, about_text, sheet_text, svg_text, line_text, bow_text, circle_text, white_text, words_text, tip_text};
 
-use crate::escape::escaped;
+use crate::escape::{all_escaped, escaped};
 use crate::ink::{Anchor, Cover, Ink, Spot, Stroke};
 use crate::layout::Point;
 use crate::shape::Shape;
@@ -194,11 +192,4 @@ fn push_tip(
         "<rect x=\"{x}\" y=\"{y}\" width=\"{width}\" height=\"{height}\" class=\"event\" \
         pointer-events=\"all\"><title>{told}</title></rect>\n"
     )?)
-}
-
-// All of a text, as it stands between tags.
-fn all_escaped(alloc: Global, text: &str) -> Result<String, NoMemory>
-    ensures { IfOk result (λ told. string_bytes told ≡ flat_map shown_byte text.now) }
-{
-    escaped(alloc, text, text.len())
 }

@@ -11,6 +11,7 @@ mod group;
 mod helps;
 mod lines;
 mod looks;
+mod moments;
 mod old;
 mod requests;
 mod said;
@@ -65,7 +66,8 @@ fn play_groups(rt: &HostRuntime) -> io::Result<()> {
     apart::servers(rt)?;
     old::starts(rt)?;
     crashes::crashes(rt)?;
-    looks::looks(rt)
+    looks::looks(rt)?;
+    moments::moments(rt)
 }
 
 fn main(rt: HostRuntime) -> io::Result<()> {

@@ -1,5 +1,6 @@
 //! Rows of cells whose columns line up.
-ghost use Rattle.std.specs.Prelude.{◌≡◌, IfOk, length, string_bytes};
+ghost use Rattle.std.specs.Prelude.{◌≡◌, ◌+◌, ◌++◌, List, [], ℕ, IfOk, OnOk, length, map, replicate, string_bytes};
+ghost use Rattle.report_lines.specs.Grids.{aligned_line, cells_of, laid, loose_line, with_cell, with_column};
 
 use rows::NoMemory;
 use std::alloc::Global;
@@ -9,6 +10,15 @@ pub fn owned(alloc: Global, text: &str) -> Result<String, NoMemory>
     ensures { IfOk result (λ own. string_bytes own ≡ text.now) }
 {
     Ok(String::from_str(alloc, text)?)
+}
+
+/// A row of these heads.
+pub(crate) fn heads_of(alloc: Global, heads: &[&str]) -> Result<Vec<String>, NoMemory> {
+    let mut row = Vec::new(alloc);
+    for head in heads {
+        row.push(owned(alloc, head)?)?;
+    }
+    Ok(row)
 }
 
 /// Rows of cells whose columns line up.
@@ -31,53 +41,95 @@ fn widen(widths: &mut Vec<usize>, column: usize, width: usize) -> Result<(), NoM
 fn widths(alloc: Global, rows: &[Vec<String>]) -> Result<Vec<usize>, NoMemory> {
     let mut widths = Vec::new(alloc);
     for row in rows {
-        for (column, cell) in row.iter().enumerate() {
-            widen(&mut widths, column, cell.len())?;
-        }
+        widen_row(&mut widths, row)?;
     }
     Ok(widths)
 }
 
-fn push_spaces(line: &mut String, count: usize) -> Result<(), NoMemory> {
+/// Columns are wide enough for these cells.
+pub(crate) fn widen_row(widths: &mut Vec<usize>, row: &[String]) -> Result<(), NoMemory> {
+    for (column, cell) in row.iter().enumerate() {
+        widen(widths, column, cell.len())?;
+    }
+    Ok(())
+}
+
+fn push_spaces(line: &mut String, count: usize) -> Result<(), NoMemory>
+    ensures { OnOk result (string_bytes line.new ≡ string_bytes line.old ++ replicate count 32) }
+{
     for _ in 0..count {
         line.push(' ')?;
     }
     Ok(())
 }
 
-// The line of a row, without spaces at its end.
-fn line_of(alloc: Global, row: &[String], widths: &[usize]) -> Result<String, NoMemory> {
+/// The line of a row, without spaces at its end.
+pub(crate) fn line_of(alloc: Global, row: &[String], widths: &[usize]) -> Result<String, NoMemory>
+    ensures { IfOk result (λ line.
+        string_bytes line ≡ aligned_line widths.now (map string_bytes row.now)) }
+{
     let mut line = String::new(alloc);
     let mut owed = 0usize;
-    for (cell, width) in row.iter().zip(widths) {
-        if !cell.is_empty() {
-            push_spaces(&mut line, owed)?;
-            line.push_str(cell)?;
-            owed = 0;
-        }
-        let rest = width.saturating_sub(cell.len());
-        owed = owed.saturating_add(rest).saturating_add(2);
+    for place in 0..row.len().min(widths.len()) {
+        owed = push_column(&mut line, owed, row[place].as_str(), widths[place])?;
     }
     Ok(line)
 }
 
+// A cell more, behind so many spaces; how many come before the next one.
+fn push_column(line: &mut String, owed: usize, cell: &str, width: usize) -> Result<usize, NoMemory>
+    ensures { IfOk result (λ next. laid (string_bytes line.new) next
+        ≡ with_column (laid (string_bytes line.old) owed) cell.now width) }
+{
+    if cell.is_empty() {
+        return gap(owed, width);
+    }
+    push_spaces(line, owed)?;
+    line.push_str(cell)?;
+    gap(0, width.saturating_sub(cell.len()))
+}
+
+// The spaces that are owed behind a column. A line with more than a number holds has no memory.
+fn gap(owed: usize, width: usize) -> Result<usize, NoMemory>
+    ensures { IfOk result (λ gap. gap ≡ owed + width + 2) }
+{
+    let Some(wide) = owed.checked_add(width) else {
+        return Err(NoMemory);
+    };
+    match wide.checked_add(2) {
+        Some(gap) => Ok(gap),
+        None => Err(NoMemory),
+    }
+}
+
 // The line of a row by itself, with two spaces between its cells.
-fn loose_line(alloc: Global, row: &[String]) -> Result<String, NoMemory> {
+fn loose_line(alloc: Global, row: &[String]) -> Result<String, NoMemory>
+    ensures { IfOk result (λ line. string_bytes line ≡ loose_line (map string_bytes row.now)) }
+{
     let mut line = String::new(alloc);
     for cell in row {
-        if !cell.is_empty() {
-            let owed = if line.is_empty() { 0 } else { 2 };
-            push_spaces(&mut line, owed)?;
-            line.push_str(cell)?;
-        }
+        push_cell(&mut line, cell.as_str())?;
     }
     Ok(line)
+}
+
+fn push_cell(line: &mut String, cell: &str) -> Result<(), NoMemory>
+    ensures { OnOk result (string_bytes line.new ≡ with_cell (string_bytes line.old) cell.now) }
+{
+    if cell.is_empty() {
+        return Ok(());
+    }
+    if !line.is_empty() {
+        line.push_str("  ")?;
+    }
+    line.push_str(cell)?;
+    Ok(())
 }
 
 impl Grid {
     /// No rows.
     pub fn new(alloc: Global) -> Grid
-        ensures { length result.rows.items ≡ 0 }
+        ensures { result.rows.items ≡ [] }
     {
         Grid {
             rows: Vec::new(alloc),
@@ -86,7 +138,9 @@ impl Grid {
 
     /// The lines of the rows, one for each, in their order.
     pub fn lines(&self, alloc: Global) -> Result<Vec<String>, NoMemory>
-        ensures { IfOk result (λ lines. length lines.items ≡ length self.now.rows.items) }
+        ensures count { IfOk result (λ lines. length lines.items ≡ length self.now.rows.items) }
+        ensures lines { IfOk result (λ lines. (widths : List ℕ) × (map string_bytes lines.items
+            ≡ map (aligned_line widths) (map cells_of self.now.rows.items))) }
     {
         let widths = widths(alloc, &self.rows)?;
         let mut lines = Vec::new(alloc);
@@ -98,7 +152,9 @@ impl Grid {
 
     /// The lines of the rows, one for each, in their order, whose columns do not line up.
     pub fn loose_lines(&self, alloc: Global) -> Result<Vec<String>, NoMemory>
-        ensures { IfOk result (λ lines. length lines.items ≡ length self.now.rows.items) }
+        ensures count { IfOk result (λ lines. length lines.items ≡ length self.now.rows.items) }
+        ensures lines { IfOk result (λ lines. map string_bytes lines.items
+            ≡ map loose_line (map cells_of self.now.rows.items)) }
     {
         let mut lines = Vec::new(alloc);
         for row in &self.rows {

@@ -1,13 +1,16 @@
 //! A report as lines of text.
-ghost use Rattle.std.specs.Prelude.{◌<◌, ◌≤◌, IfOk, OnOk, length};
+ghost use Rattle.std.specs.Prelude.{◌≡◌, ◌<◌, ◌≤◌, IfOk, OnOk, length, string_bytes};
+ghost use Rattle.report_lines.specs.Heads.{head_line};
 
+use crate::entries::entries_table;
 use crate::grid::{Grid, owned};
 use crate::tables::{
-    allocations_table, beats_table, blocked_table, clients_table, entries_table, evaluations_table,
-    given_table, jobs_table, nodes_table, plans_table, servers_table,
+    allocations_table, beats_table, blocked_table, clients_table, evaluations_table, given_table,
+    jobs_table, nodes_table, plans_table, servers_table,
 };
 use inspection_reports::{
-    DeskReport, EvaluationReport, NodesReport, PlacementReport, Report, StateReport,
+    ClientReport, DeskReport, EvaluationReport, NodesReport, PlacementReport, Report, ServerReport,
+    StateReport,
 };
 use rows::NoMemory;
 use std::alloc::Global;
@@ -18,8 +21,7 @@ pub fn report_lines(alloc: Global, report: &Report) -> Result<Vec<String>, NoMem
     ensures { IfOk result (λ lines. 0 < length lines.items) }
 {
     let mut lines = Vec::new(alloc);
-    let (after, events, messages) = (report.after, report.events, report.messages);
-    lines.push(format!(in alloc; "after {after} of {events} events, {messages} messages sent")?)?;
+    lines.push(head_line(alloc, report.after, report.events, report.messages)?)?;
     put_table(alloc, &mut lines, servers_table(alloc, &report.servers))?;
     put_table(alloc, &mut lines, entries_table(alloc, &report.servers))?;
     for desk in &report.desks {
@@ -29,6 +31,55 @@ pub fn report_lines(alloc: Global, report: &Report) -> Result<Vec<String>, NoMem
     for state in &report.states {
         put_state(alloc, &mut lines, state)?;
     }
+    Ok(lines)
+}
+
+/// The first line of a report: after how many of how many events it is, and how many messages were
+/// sent.
+pub(crate) fn head_line(
+    alloc: Global,
+    after: usize,
+    events: usize,
+    messages: usize,
+) -> Result<String, NoMemory>
+    ensures { IfOk result (λ line. string_bytes line ≡ head_line after events messages) }
+{
+    Ok(format!(in alloc; "after {after} of {events} events, {messages} messages sent")?)
+}
+
+/// The lines of a report's servers.
+pub(crate) fn server_lines(
+    alloc: Global,
+    servers: &[ServerReport],
+) -> Result<Vec<String>, NoMemory> {
+    let mut lines = Vec::new(alloc);
+    put_table(alloc, &mut lines, servers_table(alloc, servers))?;
+    Ok(lines)
+}
+
+/// The lines of a report's desks.
+pub(crate) fn desk_lines(alloc: Global, desks: &[DeskReport]) -> Result<Vec<String>, NoMemory> {
+    let mut lines = Vec::new(alloc);
+    for desk in desks {
+        put_desk(alloc, &mut lines, desk)?;
+    }
+    Ok(lines)
+}
+
+/// The lines of a report's clients.
+pub(crate) fn client_lines(
+    alloc: Global,
+    clients: &[ClientReport],
+) -> Result<Vec<String>, NoMemory> {
+    let mut lines = Vec::new(alloc);
+    put_table(alloc, &mut lines, clients_table(alloc, clients))?;
+    Ok(lines)
+}
+
+/// The lines of a state.
+pub(crate) fn state_lines(alloc: Global, state: &StateReport) -> Result<Vec<String>, NoMemory> {
+    let mut lines = Vec::new(alloc);
+    put_state(alloc, &mut lines, state)?;
     Ok(lines)
 }
 
@@ -68,7 +119,7 @@ fn put_state(alloc: Global, lines: &mut Vec<String>, state: &StateReport) -> Res
     ensures { OnOk result (length lines.old.items ≤ length lines.new.items) }
 {
     lines.push(String::new(alloc))?;
-    lines.push(state_head(alloc, state)?)?;
+    lines.push(state_head(alloc, state.applied, &state.servers)?)?;
     put_table(alloc, lines, jobs_table(alloc, &state.jobs))?;
     put_table(alloc, lines, nodes_table(alloc, &state.nodes))?;
     put_table(alloc, lines, evaluations_table(alloc, &state.evaluations))?;
@@ -76,10 +127,10 @@ fn put_state(alloc: Global, lines: &mut Vec<String>, state: &StateReport) -> Res
     put_table(alloc, lines, allocations_table(alloc, &state.allocations))
 }
 
-fn state_head(alloc: Global, state: &StateReport) -> Result<String, NoMemory> {
-    let applied = state.applied;
+/// The head of a state: after how many entries it is, and which servers have applied it.
+pub(crate) fn state_head(alloc: Global, applied: u64, servers: &[u8]) -> Result<String, NoMemory> {
     let mut head = format!(in alloc; "state after {applied} entries, at")?;
-    for server in &state.servers {
+    for server in servers {
         write!(head, " S{server}")?;
     }
     Ok(head)

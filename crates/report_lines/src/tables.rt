@@ -1,12 +1,10 @@
 //! The tables of a report.
-ghost use Rattle.std.specs.Prelude.{◌≡◌, IfOk, length, option_copied};
-ghost use Rattle.std.specs.List.{list_any};
-ghost use Rattle.report_lines.specs.Inner.Entries.{entry_of, has_entry};
+ghost use Rattle.std.specs.Prelude.{◌≡◌, IfOk, length};
 
-use crate::grid::{Grid, owned};
+use crate::grid::{Grid, heads_of, owned};
 use inspection_reports::{
-    AllocationReport, BeatReport, BlockedReport, ClientReport, DeliveryReport, EntryReport,
-    EvaluationReport, GroupReport, JobReport, NodeReport, PlanReport, ServerReport,
+    AllocationReport, BeatReport, BlockedReport, ClientReport, DeliveryReport, EvaluationReport,
+    GroupReport, JobReport, NodeReport, PlanReport, ServerReport,
 };
 use rows::NoMemory;
 use std::alloc::Global;
@@ -14,17 +12,13 @@ use std::alloc::Global;
 // A table that has heads alone.
 fn headed(alloc: Global, heads: &[&str]) -> Result<Grid, NoMemory> {
     let mut grid = Grid::new(alloc);
-    let mut row = Vec::new(alloc);
-    for head in heads {
-        row.push(owned(alloc, head)?)?;
-    }
-    grid.rows.push(row)?;
+    grid.rows.push(heads_of(alloc, heads)?)?;
     Ok(grid)
 }
 
-// What stands in a cell.
+/// What stands in a cell.
 #[derive(Clone, Copy)]
-enum Cell<'a> {
+pub(crate) enum Cell<'a> {
     Text(&'a str),
     Number(u64),
     // A dash where there is none.
@@ -38,7 +32,8 @@ enum Cell<'a> {
     Spaced(&'a [String]),
 }
 
-fn cell_text(alloc: Global, cell: Cell) -> Result<String, NoMemory> {
+/// The text of a cell.
+pub(crate) fn cell_text(alloc: Global, cell: Cell) -> Result<String, NoMemory> {
     match cell {
         Cell::Text(text) => owned(alloc, text),
         Cell::Number(number) | Cell::NumberOrDash(Some(number)) => {
@@ -68,8 +63,8 @@ fn spaced(alloc: Global, texts: &[String]) -> Result<String, NoMemory> {
     Ok(all)
 }
 
-// A row of these cells.
-fn row_of_cells(alloc: Global, cells: &[Cell]) -> Result<Vec<String>, NoMemory>
+/// A row of these cells.
+pub(crate) fn row_of_cells(alloc: Global, cells: &[Cell]) -> Result<Vec<String>, NoMemory>
     ensures { IfOk result (λ row. length row.items ≡ length cells.now) }
 {
     let mut row = Vec::new(alloc);
@@ -102,98 +97,6 @@ fn server_row(alloc: Global, server: &ServerReport) -> Result<Vec<String>, NoMem
         Cell::NumberOrDash(server.applied),
     ];
     row_of_cells(alloc, &cells)
-}
-
-// The entry at an index of a server's log, if the server has it and its snapshot does not cover it.
-fn entry_of(server: &ServerReport, index: u64) -> Option<&EntryReport>
-    ensures { option_copied result ≡ entry_of server.now index }
-{
-    if index <= server.covered {
-        return None;
-    }
-    server.log.get((index - server.covered - 1) as usize)
-}
-
-fn has_entry(server: &ServerReport, index: u64, term: u64) -> bool
-    ensures { result ≡ has_entry server.now index term }
-{
-    match entry_of(server, index) {
-        Some(entry) => entry.term == term,
-        None => false,
-    }
-}
-
-// The greatest index of all logs.
-fn last_index(servers: &[ServerReport]) -> u64 {
-    let mut last = 0;
-    for server in servers {
-        last = server.last.max(last);
-    }
-    last
-}
-
-/// The entries of all logs, with the servers that have each; those that a snapshot covers stand
-/// where some server has them still.
-pub(crate) fn entries_table(alloc: Global, servers: &[ServerReport]) -> Result<Grid, NoMemory> {
-    let mut grid = headed(alloc, &["entry", "term", "held by", "command"])?;
-    for index in 1..=last_index(servers) {
-        add_entries(alloc, &mut grid, servers, index)?;
-    }
-    Ok(grid)
-}
-
-// The entries at an index: of those that several servers have, the first one's stands for all.
-fn add_entries(
-    alloc: Global,
-    grid: &mut Grid,
-    servers: &[ServerReport],
-    index: u64,
-) -> Result<(), NoMemory> {
-    for (place, server) in servers.iter().enumerate() {
-        let Some(entry) = entry_of(server, index) else {
-            continue;
-        };
-        if !is_among(&servers[..place], index, entry.term) {
-            grid.rows.push(entry_row(alloc, servers, entry)?)?;
-        }
-    }
-    Ok(())
-}
-
-fn is_among(servers: &[ServerReport], index: u64, term: u64) -> bool
-    ensures { result ≡ list_any (λ s. has_entry s index term) servers.now }
-{
-    servers.iter().any(|server| has_entry(server, index, term))
-}
-
-fn entry_row(
-    alloc: Global,
-    servers: &[ServerReport],
-    entry: &EntryReport,
-) -> Result<Vec<String>, NoMemory> {
-    let holders = holders_of(alloc, servers, entry)?;
-    let cells = [
-        Cell::Number(entry.index),
-        Cell::Number(entry.term),
-        Cell::Spaced(holders.as_slice()),
-        Cell::Text(entry.command.as_str()),
-    ];
-    row_of_cells(alloc, &cells)
-}
-
-// The servers that have an entry.
-fn holders_of(
-    alloc: Global,
-    servers: &[ServerReport],
-    entry: &EntryReport,
-) -> Result<Vec<String>, NoMemory> {
-    let mut holders = Vec::new(alloc);
-    for server in servers {
-        if has_entry(server, entry.index, entry.term) {
-            holders.push(cell_text(alloc, Cell::Server(server.server))?)?;
-        }
-    }
-    Ok(holders)
 }
 
 /// What a desk gave out.

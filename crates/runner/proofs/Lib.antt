@@ -1,4 +1,4 @@
-pub mod KeptShapes
 pub mod Tellings
 pub mod Seats
 pub mod Runs
+pub mod Expansions

@@ -1,8 +1,9 @@
 -- What is told of a run as a whole.
-use Rattle.std.proofs.Common.{◌≡◌, ◌⊎◌, ◌∙◌, ◌≤◌, ℕ, List, Option, IfSome, OnOk, Result, Ok, Err, arith, inl, inr, length, subst}
+use Rattle.std.proofs.Common.{◌≡◌, ◌⊎◌, ◌∙◌, ◌≤◌, ◌∷◌, ℕ, List, [], Option, IfSome, OnOk, Result, Ok, Err, ap, arith, inl, inr, length, refl, subst}
 use Rattle.clap.specs.Words.{IsAmong, Kinds}
 use Rattle.rows.specs.declared.actor.Actor.{Actor}
 use Rattle.rows.specs.declared.node.NodeSpec.{NodeSpec}
+use Rattle.rows.specs.declared.refusal.Refusal.{Refusal}
 use Rattle.world.specs.GroupView.{GroupView, nodes_of, renumbered}
 use Rattle.cells.specs.Cells.{CellView}
 use Rattle.cluster.specs.Closing.{ClosesTo}
@@ -11,34 +12,17 @@ use Rattle.transcript.specs.Records.{record_of}
 use Rattle.ending.specs.Endings.{TellsEnding}
 use Rattle.scenario_file.specs.declared.scenario.Scenario.{Scenario}
 use Rattle.scenario_file.specs.Complaints.{IsGood}
-use Rattle.scenario_file.specs.Objects.{IsScenarioText, step_lines}
+use Rattle.scenario_file.specs.Objects.{IsScenarioText}
+use Rattle.scenario_file.specs.Steps.{Step}
+use Rattle.playing.specs.Played.{LinePlayed, LinesPlayed, Refused}
 use Rattle.file_runs.specs.Faults.{IsStatus}
 use Rattle.runner.specs.Faults.{AskForHelp}
-use Rattle.runner.specs.Told.{TellsScenario, TellsThreads}
+use Rattle.runner.specs.ThreadSteps.{LinesOnThreads, RefusedOnThreads, TakenOnThreads}
+use Rattle.runner.specs.Told.{TellsThreads}
 use Rattle.runner.specs.Inner.Closed.{TellsClosed, TellsOnThreads}
 use Rattle.runner.specs.Inner.Faults.{IsFound}
-use Rattle.file_runs.specs.Plays.{TellsPlay}
-use Rattle.playing.specs.PlaySteps.{StepRefused, StepTaken}
 use Rattle.file_runs.specs.declared.fault.Fault.{Fault}
 use Rattle.file_runs.specs.declared.fault.Fault.TheVariants.{CommandLine, CannotRead, CannotWrite, BadScenario, BadTranscript, NoSuchEvent, Percentages, NoMemory, Output}
-use Rattle.runner.proofs.KeptShapes.{nodes_stay, size_stays}
-use Rattle.file_runs.proofs.Stages.{each_may_refuse}
-
-pub play_is_told : (file written : Option (List ℕ)) (status : ℕ) (old new : Option (List ℕ)) → TellsPlay file written status old new → TellsScenario file written status old new
-play_is_told file written status old new is =
-    let lines = step_lines is.scenario in
-    record {
-      scenario = is.scenario;
-      read = is.read;
-      good = is.good;
-      refused = is.refused;
-      of_lines = each_may_refuse StepTaken StepRefused 1 lines is.first is.last is.refused is.played;
-      group = is.last.world;
-      size = size_stays lines is.first is.refused is.last is.played ∙ is.begun.world.count;
-      nodes = nodes_stay lines is.first is.refused is.last is.played ∙ is.begun.world.nodes_are;
-      recorded = is.recorded;
-      told = is.told;
-    }
 
 -- ---- threads
 
@@ -59,21 +43,49 @@ closed_told n nodes all cells group written old new (Err fault) closes servers c
 
 pub on_threads_told : (file written : Option (List ℕ)) (s : Scenario) (status : ℕ) (old new : Option (List ℕ)) → IfSome file (λ text. IsScenarioText text s) → IsGood s
     → TellsOnThreads s written status old new → TellsThreads file written status old new
-on_threads_told file written s status old new read good (between, all, cells, steps, closed) = (
-  record {
-    scenario = s;
-    read = read;
-    good = good;
-    refused = steps.0;
-    of_lines = steps.1;
-    group = closed.group;
-    size = closed.servers;
-    nodes = closed.clients;
-    recorded = closed.recorded;
-    told = (between, steps.2, closed.ending);
-  },
-  (all, cells, closed.closes),
-)
+on_threads_told file written s status old new read good (between, all, cells, steps, closed) = record {
+  scenario = s;
+  read = read;
+  good = good;
+  all = all;
+  refused = steps.0;
+  played = steps.1;
+  cells = cells;
+  group = closed.group;
+  closes = closed.closes;
+  size = closed.servers;
+  nodes = closed.clients;
+  recorded = closed.recorded;
+  told = (between, steps.2, closed.ending);
+}
+
+-- ---- lines on threads
+
+-- a stage that stays as it is, whose steps do what they do on threads of these actors
+module _ {S : Type 0} (n : ℕ) (actors_in : S → List Actor) where
+  abbrev pub StaysTaken : Step → S → S → Type 0
+  StaysTaken step old new = (new ≡ old) × TakenOnThreads n step
+
+  abbrev pub StaysRefused : Step → S → Refusal → S → Type 0
+  StaysRefused step old refusal new = (new ≡ old) × RefusedOnThreads n (actors_in old) step refusal
+
+  abbrev LineOn : List Actor → List ℕ → List Refused → Type 0
+  LineOn all line refused =
+      LinePlayed {S = Unit {0}} (λ step old new. TakenOnThreads n step) (λ step old refusal new. RefusedOnThreads n all step refusal) line tt refused tt
+
+  line_on : (line : List ℕ) (old new : S) (refused : List Refused) → LinePlayed StaysTaken StaysRefused line old refused new → (new ≡ old) × LineOn (actors_in old) line refused
+  line_on line old new refused played =
+      elim played.became [
+        | inl taken ↦ (taken.0.0, record { step = played.step; named = played.named; became = inl (taken.0.1, taken.1) })
+        | inr refuses ↦ (refuses.1.0, record { step = played.step; named = played.named; became = inr (refuses.0, refuses.1.1, refuses.2) })
+      ]
+
+  pub lines_on : (all : List Actor) (lines : List (List ℕ)) (first last : S) (refused : List Refused) → actors_in first ≡ all
+      → LinesPlayed StaysTaken StaysRefused lines first refused last → LinesOnThreads n all lines refused
+  lines_on all [] first last refused are played = (played.0, refl)
+  lines_on all (line ∷ lines) first last refused are played =
+      let own = line_on line first played.2 played.0 played.4 in
+      (played.0, played.1, tt, played.3, subst (λ a. LineOn a line played.0) are own.1, lines_on all lines played.2 last played.1 (ap actors_in own.0 ∙ are) played.5)
 
 -- ---- help
 

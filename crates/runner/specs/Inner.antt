@@ -3,5 +3,5 @@ pub mod Faults
 pub mod Helps
 pub mod Printed
 pub mod Runs
-pub mod ThreadSteps
 pub mod Closed
+pub mod Actors

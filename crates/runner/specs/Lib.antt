@@ -1,4 +1,6 @@
 pub mod Pages
 pub mod Faults
+pub mod ThreadSteps
+pub mod Expansions
 pub mod Told
 pub mod Inner

@@ -17,7 +17,6 @@ use Rattle.command_line.specs.declared.command.SweepWords.{SweepWords}
 use Rattle.scenario_file.specs.declared.scenario.Scenario.{Scenario}
 use Rattle.scenario_file.specs.declared.scenario.Settings.{Settings}
 use Rattle.scenario_file.specs.Complaints.{IsGood}
-use Rattle.scenario_file.specs.EachLine.{OfEachLine}
 use Rattle.scenario_file.specs.Objects.{IsScenarioText, step_lines}
 use Rattle.playing.specs.Played.{Refused}
 use Rattle.expansion.specs.Checked.{IsGoodShortText}
@@ -27,36 +26,34 @@ use Rattle.sweep.specs.Rows.{AreRows}
 use Rattle.sweep.specs.Summaries.{IsSummary}
 use Rattle.sweep.specs.Tables.{csv_text, summary_text}
 use Rattle.file_runs.specs.Notes.{TellsNotes}
-use Rattle.file_runs.specs.Refusals.{MayRefuse, TellsRun}
+use Rattle.file_runs.specs.Plays.{TellsPlay}
+use Rattle.file_runs.specs.Refusals.{TellsRun}
 use Rattle.file_runs.specs.Replays.{TellsReplay}
+use Rattle.runner.specs.Expansions.{IsExpansion}
 use Rattle.runner.specs.Faults.{AskForHelp}
+use Rattle.runner.specs.ThreadSteps.{LinesOnThreads}
 
 -- ---- scenarios
 
--- A scenario was played, each of whose lines is a step's: that of the file, where its bytes are
--- known. Told are the refusals of some of its lines, in order and each once at most, and the last
--- lines of a group of its size and nodes, of which the transcript is, where the bytes of that are
--- known.
-pub record TellsScenario (file written : Option (List ℕ)) (status : ℕ) (old new : Option (List ℕ)) : Type 0 where
+-- A scenario was played on threads, each of whose lines is a step's: that of the file, where its
+-- bytes are known. Each of its steps came to the cells of a group of its size and nodes. All that
+-- these noted, each event once, is what happened to the group to which they close. Told are the
+-- steps that were refused, and the last lines of that group; and of that the transcript is, where the
+-- bytes of that are known.
+pub record TellsThreads (file written : Option (List ℕ)) (status : ℕ) (old new : Option (List ℕ)) : Type 0 where
   pub scenario : Scenario
   pub read : IfSome file (λ text. IsScenarioText text scenario)
   pub good : IsGood scenario
+  pub all : List Actor
   pub refused : List Refused
-  pub of_lines : OfEachLine MayRefuse 1 (step_lines scenario) refused
+  pub played : LinesOnThreads scenario.settings.servers all (step_lines scenario) refused
+  pub cells : List CellView
   pub group : GroupView
+  pub closes : ClosesTo all cells group
   pub size : length group.servers ≡ scenario.settings.servers
   pub nodes : nodes_of group ≡ renumbered 1 scenario.nodes.items
   pub recorded : IfSome written (IsTranscript (record_of group))
   pub told : TellsRun refused group status old new
-
--- cells close to this group: all that they noted, each event once, is what happened to it
-abbrev pub IsOfCells : GroupView → Type 0
-IsOfCells group = (all : List Actor) × (cells : List CellView) × ClosesTo all cells group
-
--- the same on threads, where the group is one to which cells close
-abbrev pub TellsThreads : (file written : Option (List ℕ)) → ℕ → Option (List ℕ) → Option (List ℕ) → Type 0
-TellsThreads file written status old new =
-    (told : TellsScenario file written status old new) × IsOfCells told.group
 
 -- ---- transcripts
 
@@ -110,13 +107,14 @@ abbrev pub TellsCheck : Bool → Option (List ℕ) → ℕ → Option (List ℕ)
 TellsCheck true file status old new = TellsGoodShort file status old new
 TellsCheck false file status old new = TellsNotes file status old new
 
--- the text is a scenario, each of whose lines is a step's
-abbrev pub IsGoodPlain : List ℕ → Type 0
-IsGoodPlain text = (s : Scenario) × IsScenarioText text s × IsGood s
-
--- the output grows by such a text
-abbrev pub TellsPlain : ℕ → Option (List ℕ) → Option (List ℕ) → Type 0
-TellsPlain status old new = (text : List ℕ) × IsGoodPlain text × Appends old new text × (status ≡ 0)
+-- the output grows by the plain form of a text: that of the file, where its bytes are known
+pub record TellsPlain (file : Option (List ℕ)) (status : ℕ) (old new : Option (List ℕ)) : Type 0 where
+  pub text : List ℕ
+  pub read : IfSome file (λ known. text ≡ known)
+  pub form : List ℕ
+  pub expansion : IsExpansion text form
+  pub shown : Appends old new form
+  pub taken : status ≡ 0
 
 -- ---- many keys
 
@@ -155,7 +153,7 @@ pub record TellsSweep (file : Option (List ℕ)) (words : SweepWords) (status : 
 -- what is told of what a line asks for, `before` and `after` being the known files
 abbrev pub Tells : (before after : List ℕ → Option (List ℕ)) → CommandLine → ℕ → Option (List ℕ) → Option (List ℕ) → Type 0
 Tells before after (Run file out) status old new =
-    TellsScenario (before file.now) (option_and_then after (option_map (λ t. t.now) out)) status old new
+    TellsPlay (before file.now) (option_and_then after (option_map (λ t. t.now) out)) status old new
 Tells before after (Threads file workers out) status old new =
     TellsThreads (before file.now) (option_and_then after (option_map (λ t. t.now) out)) status old new
 Tells before after (Replay file) status old new = TellsReplay (before file.now) status old new
@@ -164,7 +162,7 @@ Tells before after (Check file short) status old new = TellsCheck short (before 
 Tells before after (Tell file) status old new = TellsEach (before file.now) status old new
 Tells before after (Inspect file at json) status old new =
     TellsStanding (before file.now) (option_map (λ k. k.now) at) status old new
-Tells before after (Expand file) status old new = TellsPlain status old new
+Tells before after (Expand file) status old new = TellsPlain (before file.now) status old new
 Tells before after (Sweep file words) status old new = TellsSweep (before file.now) words status old new
 
 -- the words ask for help, and the status is 0; or that is told for which they ask

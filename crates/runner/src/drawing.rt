@@ -2,9 +2,9 @@
 ghost use Rattle.std.specs.Prelude.{◌≡◌, ◌≢◌, ◌⊎◌, IfErr, IfOk, OnOk, length};
 ghost use Rattle.runner.specs.Pages.{GrowsByPage};
 ghost use Rattle.picture.specs.Pictures.{GrowsByPicture};
-ghost use Rattle.picture.specs.declared.fault.DrawError.TheVariants as errors;
 ghost use Rattle.file_runs.specs.declared.fault.Fault.TheVariants as faults;
 ghost use Rattle.file_runs.specs.Faults.{IsOfRun, IsPastReading, MayStopPrinting};
+ghost use Rattle.runner.specs.Inner.Faults.{drawing_fault};
 ghost use Rattle.runner.specs.Told.{ShowsRun, TellsPicture};
 
 use crate::paging::page;
@@ -102,6 +102,8 @@ fn print_picture<'a, W: Write>(
 
 // The line that is told of each event.
 fn told_of<'a>(alloc: Global, transcript: &Transcript) -> Result<Vec<String>, Fault<'a>>
+    ensures lines { IfOk result (λ lines.
+        length lines.items ≡ length transcript.now.events.items) }
     ensures fault { IfErr result MayStopPrinting }
     ensures of_run { IfErr result IsOfRun }
 {
@@ -116,7 +118,7 @@ fn told_of<'a>(alloc: Global, transcript: &Transcript) -> Result<Vec<String>, Fa
 
 // A group of a transcript's size is made, unless there is no memory.
 fn fault_of<'a>(error: DrawError) -> Fault<'a>
-    ensures output { error ≡ errors.Output → result ≡ faults.Output }
+    ensures same { result ≡ drawing_fault error }
     ensures fault { MayStopPrinting result }
     ensures of_run { IsOfRun result }
 {

@@ -6,6 +6,7 @@
 mod checks;
 mod drawing;
 mod expanding;
+mod frame;
 mod paging;
 pub mod program;
 mod script;

@@ -1,9 +1,9 @@
 //! A transcript's file, told event by event, or how its group stands after some of them.
-ghost use Rattle.std.specs.Prelude.{◌≡◌, ◌≢◌, ◌⊎◌, IfErr, IfOk, IfSome, OnOk, length, option_map};
+ghost use Rattle.std.specs.Prelude.{◌≡◌, ◌≢◌, ◌⊎◌, ℕ, IfErr, IfNone, IfOk, IfSome, OnOk, length, option_map};
 ghost use Rattle.inspection.specs.Told.{GrowsByEventLines, GrowsByLines};
-ghost use Rattle.inspection.specs.declared.fault.InspectError.TheVariants as errors;
 ghost use Rattle.file_runs.specs.declared.fault.Fault.TheVariants as faults;
 ghost use Rattle.file_runs.specs.Faults.{IsOfRun, IsPastReading};
+ghost use Rattle.runner.specs.Inner.Faults.{form_in, seeing_fault};
 ghost use Rattle.runner.specs.Told.{IsAfter, TellsEach, TellsStanding};
 
 use event_texts::read_number;
@@ -63,13 +63,17 @@ pub(crate) fn inspect_file<'a, F: Shelf, W: Write>(
     Ok(0)
 }
 
-fn form_of(json: bool) -> Form {
+fn form_of(json: bool) -> Form
+    ensures { result ≡ form_in json }
+{
     if json { Form::Json } else { Form::Text }
 }
 
 // After how many of so many events; none where the word is no such number.
 fn after_of(at: Option<&str>, all: usize) -> Option<usize>
-    ensures { IfSome result (IsAfter (option_map (λ k. k.now) at.entry) all) }
+    ensures some { IfSome result (IsAfter (option_map (λ k. k.now) at.entry) all) }
+    ensures none { IfNone result
+        ((after : ℕ) → ¬ IsAfter (option_map (λ k. k.now) at.entry) all after) }
 {
     let Some(word) = at else {
         return Some(all);
@@ -123,7 +127,7 @@ fn print_standing<'a, W: Write>(
 
 // A group of a transcript's size is made, unless there is no memory.
 fn fault_of<'a>(error: InspectError, events: usize) -> Fault<'a>
-    ensures output { error ≡ errors.Output → result ≡ faults.Output }
+    ensures same { result ≡ seeing_fault error events }
     ensures of_run { IsOfRun result }
     ensures past { IsPastReading result }
 {

@@ -3,11 +3,11 @@ ghost use Rattle.std.specs.Prelude.{◌≡◌, ◌≢◌, ◌≤◌, ◌⊎◌, 
 ghost use Rattle.std.specs.Io.KnownBytes.{Appends};
 ghost use Rattle.cells.specs.Actors.{group_size, own_event};
 ghost use Rattle.group_inputs.specs.Events.{group_event};
+ghost use Rattle.runner.specs.Inner.Actors.{actors_of, first_servers};
 ghost use Rattle.runner.specs.Inner.Printed.{lost_line};
-ghost use Rattle.runner.specs.Inner.Closed.{AreWhole, TellsClosed, TellsOnThreads};
+ghost use Rattle.runner.specs.Inner.Closed.{AreWhole, TellsClosed, TellsLinesOn, TellsOnThreads};
 ghost use Rattle.file_runs.specs.Faults.{IsOfRun, IsPastReading};
-ghost use Rattle.file_runs.specs.Plays.{TellsSteps};
-ghost use Rattle.runner.specs.Inner.ThreadSteps.{IsDelivery, RefusedOnThreads, TakenOnThreads};
+ghost use Rattle.runner.specs.ThreadSteps.{IsDelivery, RefusedOnThreads, TakenOnThreads};
 ghost use Rattle.runner.specs.Told.{TellsThreads};
 ghost use Rattle.scenario_file.specs.Complaints.{IsGood};
 ghost use Rattle.scenario_file.specs.Objects.{step_lines};
@@ -79,10 +79,11 @@ struct OnThreads<B: BookId, R> {
 }
 
 impl<B: BookId, R: Wait> Stage for OnThreads<B, R> {
-    ghost Takes = { λ step old new. TakenOnThreads (group_size B.actors) step };
+    ghost Takes = { λ step old new.
+        (new ≡ old) × TakenOnThreads (group_size B.actors) step };
 
-    ghost Refuses = { λ step old refusal new.
-        RefusedOnThreads (group_size B.actors) old.group.value.cells.actors step refusal };
+    ghost Refuses = { λ step old refusal new. (new ≡ old)
+        × RefusedOnThreads (group_size B.actors) old.group.value.cells.actors step refusal };
 
     // Workers run by themselves, and messages come by themselves.
     fn take(&mut self, step: Step) -> Result<(), Refusal> {
@@ -124,12 +125,12 @@ fn handed(event: Event) -> Option<(Actor, OwnInput)>
 }
 
 // The actors of a scenario's group: its servers, and a client for each node.
-fn actors(alloc: Global, scenario: &Scenario) -> Result<Vec<Actor>, Refusal> {
-    let mut actors = Vec::new(alloc);
-    for position in 0..usize::from(scenario.settings.servers) {
-        let server = ServerId::from_position(position).ok_or(Refusal::OutOfRange)?;
-        actors.push(Actor::Server(server))?;
-    }
+#[tactic(auto, using(crate::proofs::Seats::one_client_more))]
+fn actors(alloc: Global, scenario: &Scenario) -> Result<Vec<Actor>, Refusal>
+    ensures { IfOk result (λ actors. actors.items
+        ≡ actors_of scenario.now.settings.servers scenario.now.nodes.items) }
+{
+    let mut actors = first_servers(alloc, usize::from(scenario.settings.servers))?;
     for node in &scenario.nodes {
         let client = ClientId::from_number(node.number.number()).ok_or(Refusal::OutOfRange)?;
         actors.push(Actor::Client(client))?;
@@ -137,11 +138,29 @@ fn actors(alloc: Global, scenario: &Scenario) -> Result<Vec<Actor>, Refusal> {
     Ok(actors)
 }
 
-fn opened(alloc: Global, scenario: &Scenario) -> Result<OpenedBook<OwnInput>, Refusal> {
+// So many servers.
+#[tactic(auto, using(crate::proofs::Seats::one_server_more))]
+fn first_servers(alloc: Global, count: usize) -> Result<Vec<Actor>, Refusal>
+    ensures { IfOk result (λ actors. actors.items ≡ first_servers count) }
+{
+    let mut actors = Vec::new(alloc);
+    for position in 0..count {
+        let server = ServerId::from_position(position).ok_or(Refusal::OutOfRange)?;
+        actors.push(Actor::Server(server))?;
+    }
+    Ok(actors)
+}
+
+fn opened(alloc: Global, scenario: &Scenario) -> Result<OpenedBook<OwnInput>, Refusal>
+    ensures { IfOk result (λ book. book.1
+        ≡ actors_of scenario.now.settings.servers scenario.now.nodes.items) }
+{
     OpenedBook::new(alloc, actors(alloc, scenario)?)
 }
 
 fn open_book<'a>(alloc: Global, scenario: &Scenario) -> Result<OpenedBook<OwnInput>, Fault<'a>>
+    ensures actors { IfOk result (λ book. book.1
+        ≡ actors_of scenario.now.settings.servers scenario.now.nodes.items) }
     ensures past { IfErr result IsPastReading }
     ensures of_run { IfErr result IsOfRun }
 {
@@ -183,7 +202,9 @@ fn group<B: BookId>(
 // One more hold of a group.
 fn held<B: BookId>(
     group: &Arc<RunningGroup<B, OpenGate>, Global>,
-) -> Result<Arc<RunningGroup<B, OpenGate>, Global>, NoMemory> {
+) -> Result<Arc<RunningGroup<B, OpenGate>, Global>, NoMemory>
+    ensures { IfOk result (λ hold. hold.value ≡ group.now.value) }
+{
     Ok(Arc::try_clone(group)?)
 }
 
@@ -239,8 +260,8 @@ where
     requires book { opened ≡ (B.table, B.actors) }
     requires nodes { scenario.now.nodes.items ≡ B.nodes }
     ensures status { IfOk result (λ played. played.0 ≤ 1) }
-    ensures told { IfOk result (λ played. TellsSteps (step_lines scenario.now) played.0
-        (W.contents out.old) (W.contents out.new)) }
+    ensures told { IfOk result (λ played. TellsLinesOn (group_size B.actors) B.actors
+        (step_lines scenario.now) played.0 (W.contents out.old) (W.contents out.new)) }
     ensures whole { IfOk result (λ played. AreWhole played.1.servers played.1.clients B.actors
         played.1.cells.items) }
     ensures servers { IfOk result (λ played. played.1.servers ≡ scenario.now.settings.servers) }
@@ -254,18 +275,39 @@ where
         // A group of a scenario's size is made, unless there is no memory.
         Err(_) => return Err(Fault::NoMemory),
     };
-    let mut stage = OnThreads {
-        rt,
-        group: held(&group)?,
-    };
     let threads = start(rt, alloc, &group, workers)?;
-    let played = play_steps(alloc, out, &mut stage, scenario);
-    drop(stage);
+    let played = play_on(rt, alloc, out, &group, scenario);
     // Nobody else has the group once its threads have ended.
     let group = stop(&rt, group, threads).ok_or(Fault::NoMemory)?;
     // Where the standard error fails, the run goes on.
     let _ = tell_lost(err, group.lost_messages());
     Ok((played?, group.into_cells().into_cells()?))
+}
+
+// Plays the steps on a group whose threads run: says each refused step at once.
+fn play_on<'a, B, W, R>(
+    rt: R,
+    alloc: Global,
+    out: &mut W,
+    group: &Arc<RunningGroup<B, OpenGate>, Global>,
+    scenario: &Scenario,
+) -> Result<u8, Fault<'a>>
+where
+    B: BookId,
+    W: Write,
+    R: Wait + Copy,
+    requires { group.now.value.cells.actors ≡ B.actors }
+    ensures most { IfOk result (λ status. status ≤ 1) }
+    ensures told { IfOk result (λ status. TellsLinesOn (group_size B.actors) B.actors
+        (step_lines scenario.now) status (W.contents out.old) (W.contents out.new)) }
+    ensures past { IfErr result (λ fault. IsGood scenario.now → IsPastReading fault) }
+    ensures of_run { IfErr result IsOfRun }
+{
+    let mut stage = OnThreads {
+        rt,
+        group: held(group)?,
+    };
+    play_steps(alloc, out, &mut stage, scenario)
 }
 
 // Closes a group, writes the transcript of the world to which its cells close where one is asked

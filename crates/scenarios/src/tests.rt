@@ -12,4 +12,5 @@ mod running;
 mod servers;
 mod snapshots;
 mod starved;
+mod waiting;
 mod watching;

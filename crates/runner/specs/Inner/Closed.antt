@@ -12,7 +12,9 @@ use Rattle.transcript.specs.Records.{record_of}
 use Rattle.ending.specs.Endings.{TellsEnding}
 use Rattle.scenario_file.specs.declared.scenario.Scenario.{Scenario}
 use Rattle.scenario_file.specs.Objects.{step_lines}
-use Rattle.file_runs.specs.Plays.{TellsSteps}
+use Rattle.playing.specs.Played.{Refused}
+use Rattle.file_runs.specs.Refusals.{TellsRefusals}
+use Rattle.runner.specs.ThreadSteps.{LinesOnThreads}
 
 -- as many cells as a group of n servers and m clients has actors, which are these
 pub record AreWhole (n m : ℕ) (all : List Actor) (cells : List CellView) : Type 0 where
@@ -31,10 +33,16 @@ pub record TellsClosed (n : ℕ) (nodes : List NodeSpec) (all : List Actor) (cel
   pub recorded : IfSome written (IsTranscript (record_of group))
   pub ending : TellsEnding group old new
 
--- the output grows by the lines of what is refused of a scenario's steps, and then by the last lines
--- of a group of its size and nodes to which cells close
+-- these lines came to a group of n servers, whose actors these are, and the output grows by the lines
+-- of what is refused
+abbrev pub TellsLinesOn : ℕ → List Actor → List (List ℕ) → ℕ → Option (List ℕ) → Option (List ℕ) → Type 0
+TellsLinesOn n all lines status old new =
+    (refused : List Refused) × LinesOnThreads n all lines refused × TellsRefusals refused status old new
+
+-- so of a scenario's steps, and then by the last lines of a group of its size and nodes to which
+-- cells close
 abbrev pub TellsOnThreads : Scenario → Option (List ℕ) → ℕ → Option (List ℕ) → Option (List ℕ) → Type 0
 TellsOnThreads s written status old new =
     (between : Option (List ℕ)) × (all : List Actor) × (cells : List CellView)
-    × TellsSteps (step_lines s) status old between
+    × TellsLinesOn s.settings.servers all (step_lines s) status old between
     × TellsClosed s.settings.servers s.nodes.items all cells written between new

@@ -36,7 +36,7 @@ const FLOW: u64 = 10_000_000;
 
 /// A group of three servers and two clients: server 1 leads, and has applied what registers the
 /// clients' nodes and puts two jobs, whose evaluations are 4.0 and 5.0.
-const TWO_JOBS: &[&str] = &[
+pub(super) const TWO_JOBS: &[&str] = &[
     "timeout 1",
     "beat 1",
     "register 1 1",
@@ -49,7 +49,7 @@ const TWO_JOBS: &[&str] = &[
 ];
 
 /// One more round: entries come to all servers, and a plan is judged.
-const ROUND: &[&str] = &["beat 1", "plan 1"];
+pub(super) const ROUND: &[&str] = &["beat 1", "plan 1"];
 
 /// Server 1 leads, and has applied what registers two nodes and puts a job of two; server 2 asked
 /// for its evaluation.
@@ -74,13 +74,13 @@ const CROWDS: u32 = 50;
 
 /// A gate that holds the first evaluation that comes to it, until it is opened.
 #[derive(Drop)]
-struct HoldingGate {
+pub(super) struct HoldingGate {
     holds: AtomicBool,
-    open: AtomicBool,
+    pub(super) open: AtomicBool,
 }
 
 // A gate that holds the first that comes.
-fn closed_gate() -> HoldingGate {
+pub(super) fn closed_gate() -> HoldingGate {
     HoldingGate {
         holds: AtomicBool::new(false),
         open: AtomicBool::new(false),
@@ -102,7 +102,7 @@ impl Gate for HoldingGate {
 }
 
 // Gives way to the threads.
-fn wait() {
+pub(super) fn wait() {
     for _ in 0..LOOKS {
         thread::yield_now();
     }
@@ -127,7 +127,7 @@ fn give<B: BookId, G: Gate + Drop, R: Wait>(
 }
 
 // An actor takes the event of a line; then all messages come.
-fn hand<B: BookId, G: Gate + Drop, R: Wait>(
+pub(super) fn hand<B: BookId, G: Gate + Drop, R: Wait>(
     rt: &R,
     alloc: Global,
     group: &RunningGroup<B, G>,
@@ -138,7 +138,7 @@ fn hand<B: BookId, G: Gate + Drop, R: Wait>(
     Ok(())
 }
 
-fn hand_all<B: BookId, G: Gate + Drop, R: Wait>(
+pub(super) fn hand_all<B: BookId, G: Gate + Drop, R: Wait>(
     rt: &R,
     alloc: Global,
     group: &RunningGroup<B, G>,
@@ -191,7 +191,7 @@ fn place<B: BookId, G: Gate + Drop, R: Wait>(
     Ok(false)
 }
 
-fn is_held(gate: &HoldingGate) -> bool {
+pub(super) fn is_held(gate: &HoldingGate) -> bool {
     for _ in 0..LIMIT {
         if gate.holds.load(Ordering::SeqCst) {
             return true;
@@ -230,14 +230,14 @@ fn hold_one<B: BookId, R: Wait>(
     })
 }
 
-const NET: NetSettings = NetSettings {
+pub(super) const NET: NetSettings = NetSettings {
     capacity: 1_024,
     key: 0,
     drop: 0,
     repeat: 0,
 };
 
-fn group<B: BookId, G: Gate + Drop>(
+pub(super) fn group<B: BookId, G: Gate + Drop>(
     alloc: Global,
     opened: OpenedBook<OwnInput>,
     nodes: Vec<NodeSpec>,
@@ -254,7 +254,7 @@ fn group<B: BookId, G: Gate + Drop>(
 }
 
 // The world to which a group closes that was stopped. Nobody else has it, so it is given back.
-fn closed<B: BookId, G: Gate + Drop>(
+pub(super) fn closed<B: BookId, G: Gate + Drop>(
     alloc: Global,
     stopped: Option<RunningGroup<B, G>>,
 ) -> Result<World, Refusal> {
@@ -410,6 +410,21 @@ where
     Ok(stand::<Brand, _>(rt, alloc, book, nodes, net)? == (role, events, messages, 0))
 }
 
+/// In a group without threads: how many messages a queue has room for, and how many of a hundred are
+/// lost and come twice. Then how many messages were counted as lost after server 1 stood once, and
+/// after it stood twice, and how many are on their way then. Each time both others are asked.
+type Overflow = (usize, u8, u8, u64, u64, u64);
+
+const OVERFLOWS: &[Overflow] = &[
+    (1, 0, 0, 0, 2, 2),
+    (2, 0, 0, 0, 0, 4),
+    // Each comes twice, and of the first two one finds room.
+    (1, 0, 100, 2, 6, 2),
+    (3, 0, 100, 0, 2, 6),
+    // What its fate loses is not counted.
+    (1, 100, 0, 0, 0, 0),
+];
+
 // Server 1 stands once more in a group without threads, where no message is taken. How many were
 // lost by then.
 fn stand_alone<B: BookId, R: Wait>(
@@ -421,33 +436,50 @@ fn stand_alone<B: BookId, R: Wait>(
     Ok(group.lost_messages())
 }
 
-// In a group without threads, whose queues have room for one message: how often a flow looks where
-// nothing is on its way, how many messages were lost after server 1 stood once and after it stood
-// twice, how often a flow looks then, and how many messages were sent.
+// In a group without threads: how many messages were lost after server 1 stood once and after it
+// stood twice, how many are on their way then, how often a flow looks before and after, and how many
+// messages were sent.
 fn overflow<B, R>(
     rt: &R,
     alloc: Global,
     opened: OpenedBook<OwnInput>,
     nodes: Vec<NodeSpec>,
-) -> Result<(u64, u64, u64, u64, usize), Refusal>
+    net: NetSettings,
+) -> Result<([u64; 5], usize), Refusal>
 where
     B: BookId,
     R: Wait,
     requires book { opened ≡ (B.table, B.actors) }
     requires nodes { nodes.items ≡ B.nodes }
 {
-    let net = NetSettings { capacity: 1, ..NET };
     let group = group::<B, _>(alloc, opened, nodes, net, OpenGate)?;
     let empty = group.flow(rt, LOOKS);
     let once = stand_alone(rt, alloc, &group)?;
     let twice = stand_alone(rt, alloc, &group)?;
     let full = group.flow(rt, LOOKS);
+    let found = [once, twice, group.in_flight(), empty, full];
     let world = close(alloc, group.into_cells().into_cells()?)?;
-    Ok((empty, once, twice, full, world.sent().len()))
+    Ok((found, world.sent().len()))
+}
+
+// Whether that is as in a row. A flow gives up where nobody takes what was sent.
+fn overflows<R: Wait>(rt: &R, alloc: Global, row: &Overflow) -> Result<bool, Refusal> {
+    let (capacity, drop, repeat, once, twice, flying) = *row;
+    let net = NetSettings {
+        capacity,
+        drop,
+        repeat,
+        ..NET
+    };
+    let book = opened(alloc, &[1, 2, 3], 0)?;
+    let nodes = nodes(alloc, 0)?;
+    let looks = if flying == 0 { 1 } else { LOOKS };
+    let found = overflow::<Brand, _>(rt, alloc, book, nodes, net)?;
+    Ok(found == ([once, twice, flying, 1, looks], 4))
 }
 
 // Whether the log of server 1 has so many entries.
-fn has_entries<B: BookId, G: Gate + Drop, R: Wait>(
+pub(super) fn has_entries<B: BookId, G: Gate + Drop, R: Wait>(
     rt: &R,
     group: &RunningGroup<B, G>,
     count: u64,
@@ -577,15 +609,11 @@ fn a_net_loses_and_repeats_by_its_key(rt: HostRuntime) -> Result<(), Fail> {
 
 #[test]
 fn messages_without_room_are_counted(rt: HostRuntime) -> Result<(), Fail> {
-    let book = opened(rt.alloc(), &[1, 2, 3], 0)?;
-    let nodes = nodes(rt.alloc(), 0)?;
-    let found = overflow::<Brand, _>(&rt, rt.alloc(), book, nodes)?;
-    // Each time both others are asked; a flow gives up where nobody takes what was sent.
-    let (empty, once, twice, full, sent) = found;
-    assert!(rt;
-        found == (1, 0, 2, LOOKS, 4),
-        "{empty} {once} {twice} {full} {sent}"
-    );
+    for row in OVERFLOWS {
+        let is_so = overflows(&rt, rt.alloc(), row)?;
+        let (capacity, lost, repeated, ..) = *row;
+        assert!(rt; is_so, "capacity {capacity} drop {lost} repeat {repeated}");
+    }
     Ok(())
 }
 

@@ -2,12 +2,14 @@
 //! it left; the tests pass whatever was refused, and else say what does not hold.
 
 mod group;
+mod posts;
 mod row;
 mod shown;
 mod stop;
 mod turns;
 
 use group::play_group;
+use posts::play_posts;
 use row::row;
 use std::test::*;
 use stop::Stop;
@@ -33,4 +35,10 @@ fn starved_cells_hold(rt: HostRuntime) {
     let mut at = 0;
     let wrong = wrong(play_turns(&rt, rt.alloc(), row(rt.alloc()), &mut at));
     assert!(rt; wrong.is_none(), "event {at}: {}", wrong.unwrap_or(""));
+}
+
+#[test]
+fn starved_messages_are_counted(rt: HostRuntime) {
+    let wrong = wrong(play_posts(&rt, rt.alloc()));
+    assert!(rt; wrong.is_none(), "{}", wrong.unwrap_or(""));
 }

@@ -1,10 +1,7 @@
-use Rattle.std.proofs.Common.{Err, ◌≡◌, ◌<◌, ◌≤◌, arith, length, map, rules, string_bytes, subst}
-use Rattle.std.proofs.lemmas.List.{take_all}
-use Rattle.scenario_file.specs.Objects.{step_lines}
-use Rattle.file_runs.specs.Plays.{TellsLines}
+use Rattle.std.proofs.Common.{Err, ◌≡◌, ◌<◌, arith, length, rules}
 use Rattle.playing.proofs.GoodSteps.{good_at}
 use Rattle.file_runs.proofs.Reasons.{past_reading}
-use Rattle.file_runs.proofs.Stages.{lines_tell_steps, step_refused, step_taken}
+use Rattle.file_runs.proofs.Stages.{step_refused, step_taken}
 use Rattle.file_runs.proofs.running.play_steps.Goals as goal
 use Rattle.file_runs.proofs.running.play_steps.Goals.{in-Err+in_ok-print_refusal, in_default}
 
@@ -49,17 +46,3 @@ returns-in_err-step-clause-past g c =
     let at = rw c.deref-line-items.ensures.value at c.line-item.is in
     let same : c.from_residual.result ≡ Err c.in_err-step.field-0.0 = search rules in
     rw same (λ good. past_reading _ c.in_err-step.field-0.0 (good_at steps i c.line-item.result good inside at) (rw c.as_str.ensures.value at c.in_err-step.ensures.fault))
-
-pub returns-clause-some : goal.returns-clause-some
-returns-clause-some g c =
-    let contents = g.W.Write.contents in
-    let takes = g.S.Stage.Takes in
-    let refuses = g.S.Stage.Refuses in
-    let steps = c.args.scenario.now.steps.items in
-    let i = c.loop-line.line-index in
-    let most : length steps ≤ i = search rules in
-    let lines = step_lines c.args.scenario.now in
-    let told : TellsLines takes refuses lines c.args.stage.now c.loop-line.stage c.loop-line.status (contents c.args.out.now) (contents c.loop-line.out) =
-    subst (λ ss. TellsLines takes refuses (map string_bytes ss) c.args.stage.now c.loop-line.stage c.loop-line.status (contents c.args.out.now) (contents c.loop-line.out)) (take_all i steps most)
-    c.loop-line.invariant.told in
-    lines_tell_steps takes refuses lines c.args.stage.now c.loop-line.stage c.loop-line.status (contents c.args.out.now) (contents c.loop-line.out) told

@@ -1,5 +1,7 @@
-use Rattle.std.proofs.Common.{◌≡◌, length}
+use Rattle.std.proofs.Common.{take}
+use Rattle.std.specs.List.{AllZip}
+use Rattle.inspection.specs.Inner.Clients.{IsClientReport}
 use Rattle.inspection.proofs.gathering.clients.Given as goal
 
 abbrev pub invariant-loop-client : goal.invariant-loop-client
-invariant-loop-client l = length l.reports.items ≡ l.client-index
+invariant-loop-client l = AllZip IsClientReport (take l.client-index l.client-items) l.reports.items

@@ -1,6 +1,6 @@
 use Rattle.std.proofs.Common.{◌<◌, ap, arith, length, map, string_bytes}
 use Rattle.std.proofs.lemmas.List.{length-map}
-use Rattle.inspection.proofs.LineTexts.{on_ok}
+use Rattle.playback.proofs.LineTexts.{on_ok}
 use Rattle.inspection.proofs.inspecting.inspect.Goals as goal
 
 pub returns-clause-lines : goal.returns-clause-lines

@@ -2,4 +2,4 @@ use Rattle.std.proofs.Common.{◌≡◌, ◌+◌, length}
 use Rattle.inspection.proofs.moments.moments_of.Given as goal
 
 abbrev pub invariant-loop-event : goal.invariant-loop-event
-invariant-loop-event l = length l.found.moments.items ≡ l.event-index + 1
+invariant-loop-event l = length l.recorder ≡ l.event-index + 1

@@ -4,7 +4,7 @@ use Rattle.runner.proofs.paging.page.Goals as goal
 
 pub returns-clause-page : goal.returns-clause-page
 returns-clause-page g c =
-    let page_as = IsPage c.args.servers (length c.args.nodes.now) (length c.args.events.now) in
+    let page_as = IsPage c.args.path.now c.args.servers (length c.args.nodes.now) (length c.args.events.now) in
     record {
       text = c.as_str.result.now;
       page = subst page_as (sym c.as_str.ensures.value) c.in_ok-text.ensures.page;

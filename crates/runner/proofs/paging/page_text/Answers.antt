@@ -13,5 +13,5 @@ returns-clause-page c =
       drawn = subst drawn_as (sym c.as_str.ensures.value) c.in_ok-drawn.ensures.picture;
       told = subst (IsMoments c.in_ok-found.found) (sym c.as_str-2.ensures.value) c.in_ok-json.ensures;
       many = c.in_ok-found.ensures.moments;
-      whole = c.in_ok-text.ensures;
+      whole = rw c.name_of.ensures at c.in_ok-text.ensures;
     }

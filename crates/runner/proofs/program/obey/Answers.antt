@@ -1,10 +1,7 @@
-use Rattle.std.proofs.lemmas.Result.{IfOk-weaker}
-use Rattle.runner.proofs.Tellings.{play_is_told}
 use Rattle.runner.proofs.program.obey.Goals as goal
 
 pub returns-in-Run-clause-told : goal.returns-in-Run-clause-told
-returns-in-Run-clause-told g c =
-    rw c.in-Run.is (IfOk-weaker c.run_file.result _ _ (λ status. play_is_told _ _ status _ _) c.run_file.ensures.told)
+returns-in-Run-clause-told g c = rw c.in-Run.is c.run_file.ensures.told
 
 pub returns-in-Threads-clause-told : goal.returns-in-Threads-clause-told
 returns-in-Threads-clause-told g c = rw c.in-Threads.is c.threads_file.ensures.told

@@ -1,6 +1,4 @@
 use Rattle.std.proofs.Common.{refl}
-use Rattle.std.proofs.lemmas.List.{length-map}
-use Rattle.group_inputs.specs.Events.{group_event}
 use Rattle.event_texts.specs.Transcripts.{IsTranscript, recorded}
 use Rattle.file_runs.proofs.Files.{of_file}
 use Rattle.runner.proofs.seeing.tell_file.Goals as goal
@@ -8,10 +6,9 @@ use Rattle.runner.proofs.seeing.tell_file.Goals as goal
 pub returns-clause-told : goal.returns-clause-told
 returns-clause-told g c =
     let t = c.in_ok-transcript.transcript in
-    let r = recorded t in
     record {
-      recorded = r;
-      read = of_file (IsTranscript r) _ c.in_ok-bytes.bytes.items c.in_ok-bytes.ensures.bytes (rw c.as_slice.ensures.value at c.in_ok-transcript.ensures.named);
-      lines = rw (length-map t.events.items group_event) c.in_ok-print_events.ensures.lines;
+      transcript = t;
+      read = of_file (IsTranscript (recorded t)) _ c.in_ok-bytes.bytes.items c.in_ok-bytes.ensures.bytes (rw c.as_slice.ensures.value at c.in_ok-transcript.ensures.named);
+      lines = c.in_ok-print_events.ensures.lines;
       taken = refl;
     }

@@ -23,6 +23,8 @@ pub(super) enum Stop {
     Elsewhere,
     /// A plain look at the group finds a fault.
     Plain,
+    /// Not just as many messages are on their way or lost as were sent.
+    Uncounted,
 }
 
 impl Stop {
@@ -38,6 +40,7 @@ impl Stop {
             Stop::Refusal => "another refusal",
             Stop::Elsewhere => "elsewhere",
             Stop::Plain => "plain fault",
+            Stop::Uncounted => "uncounted",
         }
     }
 }

@@ -1,0 +1,28 @@
+-- What a scenario in short form comes to.
+use Rattle.std.specs.Prelude.{◌≡◌, ℕ, List, map}
+use Rattle.std.specs.List.{All}
+use Rattle.scenario_file.specs.Complaints.{IsStepLine}
+use Rattle.playing.specs.declared.play.Play.{Play}
+use Rattle.expansion.specs.declared.short.ShortScenario.{ShortScenario}
+use Rattle.expansion.specs.EachInTurn.{OfEach}
+use Rattle.expansion.specs.Expanded.{AreTaken, LinesOf}
+use Rattle.expansion.specs.Plains.{IsPlainOf, plain_form}
+use Rattle.expansion.specs.ShortSteps.{short_step}
+use Rattle.expansion.specs.Shorts.{IsShortText}
+
+-- each of its steps took these lines in turn, and by them a new group of its own came to stand so
+pub record TakesLines (s : ShortScenario) (lines : List (List ℕ)) : Type 0 where
+  pub order : OfEach LinesOf (map short_step s.steps.items) lines
+  pub play : Play
+  pub taken : AreTaken s.settings s.nodes.items lines play
+
+-- The text in short form comes to this plain one: which is the scenario of just the lines, each a
+-- step's, that were taken.
+pub record IsExpansion (text form : List ℕ) : Type 0 where
+  pub short : ShortScenario
+  pub read : IsShortText text short
+  pub lines : List (List ℕ)
+  pub taken : TakesLines short lines
+  pub good : All IsStepLine lines
+  pub plain : IsPlainOf form short.settings short.nodes.items lines
+  pub is : form ≡ plain_form short.settings short.nodes.items lines

@@ -1,4 +1,0 @@
-use Rattle.scenarios.proofs.tests.running.messages_without_room_are_counted.Given as goal
-
-abbrev pub ghosts-overflow : goal.ghosts-overflow
-ghosts-overflow g a = record { table = a.opened.0; actors = a.opened.1; nodes = a.nodes.items }

@@ -1,0 +1,9 @@
+pub mod Changes
+pub mod Events
+pub mod Inner
+pub mod Marks
+pub mod Sent
+pub mod StandingWords
+pub mod Standings
+pub mod Told
+pub mod Words
