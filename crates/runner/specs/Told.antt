@@ -5,11 +5,13 @@ use Rattle.rows.specs.declared.actor.Actor.{Actor}
 use Rattle.world.specs.GroupView.{GroupView, nodes_of, renumbered}
 use Rattle.cells.specs.Cells.{CellView}
 use Rattle.cluster.specs.Closing.{ClosesTo}
-use Rattle.event_texts.specs.Transcripts.{IsTranscript, Recorded}
+use Rattle.event_texts.specs.Transcripts.{IsTranscript, Recorded, recorded}
+use Rattle.event_texts.specs.declared.transcript.Transcript.{Transcript}
 use Rattle.transcript.specs.Records.{record_of}
 use Rattle.runner.specs.Pages.{GrowsByPage}
 use Rattle.picture.specs.Pictures.{GrowsByPicture}
-use Rattle.inspection.specs.Told.{GrowsByEventLines, GrowsByLines}
+use Rattle.inspection.specs.Told.{GrowsByLines}
+use Rattle.telling.specs.Told.{GrowsByEventLines}
 pub use Rattle.command_line.specs.Words.{AskFor, AskForThreads, words_fault}
 use Rattle.command_line.specs.declared.command.CommandLine.{CommandLine}
 use Rattle.command_line.specs.declared.command.CommandLine.TheVariants.{Run, Threads, Replay, Draw, Check, Tell, Inspect, Expand, Sweep}
@@ -57,23 +59,25 @@ pub record TellsThreads (file written : Option (List ℕ)) (status : ℕ) (old n
 
 -- ---- transcripts
 
--- the output grows by a page of a run of so many servers, clients and events, or by a picture
-abbrev pub ShowsRun : Bool → ℕ → ℕ → ℕ → Option (List ℕ) → Option (List ℕ) → Type 0
-ShowsRun true servers clients events old new = GrowsByPage servers clients events old new
-ShowsRun false servers clients events old new = GrowsByPicture servers clients events old new
+-- the output grows by a page of a run of so many servers, clients and events, which has the name of the
+-- file at this path, or by a picture
+abbrev pub ShowsRun : Bool → List ℕ → ℕ → ℕ → ℕ → Option (List ℕ) → Option (List ℕ) → Type 0
+ShowsRun true path servers clients events old new = GrowsByPage path servers clients events old new
+ShowsRun false path servers clients events old new = GrowsByPicture servers clients events old new
 
--- a transcript was drawn, as a page or as a picture: that of the file, where its bytes are known
-pub record TellsPicture (file : Option (List ℕ)) (html : Bool) (status : ℕ) (old new : Option (List ℕ)) : Type 0 where
+-- a transcript was drawn, as a page or as a picture: that of the file at this path, where its bytes
+-- are known
+pub record TellsPicture (path : List ℕ) (file : Option (List ℕ)) (html : Bool) (status : ℕ) (old new : Option (List ℕ)) : Type 0 where
   pub recorded : Recorded
   pub read : IfSome file (IsTranscript recorded)
-  pub picture : ShowsRun html recorded.servers (length recorded.nodes) (length recorded.events) old new
+  pub picture : ShowsRun html path recorded.servers (length recorded.nodes) (length recorded.events) old new
   pub taken : status ≡ 0
 
 -- a transcript was told event by event: that of the file, where its bytes are known
 pub record TellsEach (file : Option (List ℕ)) (status : ℕ) (old new : Option (List ℕ)) : Type 0 where
-  pub recorded : Recorded
-  pub read : IfSome file (IsTranscript recorded)
-  pub lines : GrowsByEventLines (length recorded.events) old new
+  pub transcript : Transcript
+  pub read : IfSome file (IsTranscript (recorded transcript))
+  pub lines : GrowsByEventLines transcript.servers transcript.nodes.items transcript.events.items old new
   pub taken : status ≡ 0
 
 -- after how many of so many events, by what was given: after all, where nothing was
@@ -157,7 +161,7 @@ Tells before after (Run file out) status old new =
 Tells before after (Threads file workers out) status old new =
     TellsThreads (before file.now) (option_and_then after (option_map (λ t. t.now) out)) status old new
 Tells before after (Replay file) status old new = TellsReplay (before file.now) status old new
-Tells before after (Draw file html) status old new = TellsPicture (before file.now) html status old new
+Tells before after (Draw file html) status old new = TellsPicture file.now (before file.now) html status old new
 Tells before after (Check file short) status old new = TellsCheck short (before file.now) status old new
 Tells before after (Tell file) status old new = TellsEach (before file.now) status old new
 Tells before after (Inspect file at json) status old new =

@@ -12,10 +12,10 @@ use file_runs::fault::Fault;
 use file_runs::replaying::transcript_of;
 use file_runs::running::load_bytes;
 use file_runs::shelf::Shelf;
-use inspection::event_lines;
 use picture::{DrawError, draw};
 use std::alloc::Global;
 use std::io::Write;
+use telling::event_lines;
 use transcript::Transcript;
 
 /// Draws what a transcript says, as a picture or as a page.
@@ -27,25 +27,27 @@ pub(crate) fn draw_file<'a, F: Shelf, W: Write>(
     html: bool,
 ) -> Result<u8, Fault<'a>>
     ensures status { IfOk result (λ status. status ≡ 0) }
-    ensures told { IfOk result (λ status. TellsPicture (F.file shelf.old file.entry.now) html
-        status (W.contents out.old) (W.contents out.new)) }
+    ensures told { IfOk result (λ status. TellsPicture file.entry.now
+        (F.file shelf.old file.entry.now) html status
+        (W.contents out.old) (W.contents out.new)) }
     ensures unsaid { IfErr result (λ fault. (out.new ≡ out.old) ⊎ IsPastReading fault) }
     ensures left { IfErr result (λ fault. fault ≢ faults.Output → out.new ≡ out.old) }
     ensures of_run { IfErr result IsOfRun }
 {
     let bytes = load_bytes(shelf, file)?;
     let transcript = transcript_of(alloc, bytes.as_slice())?;
-    print_drawn(alloc, &transcript, html, out)?;
+    print_drawn(alloc, file, &transcript, html, out)?;
     Ok(0)
 }
 
 fn print_drawn<'a, W: Write>(
     alloc: Global,
+    file: &str,
     transcript: &Transcript,
     html: bool,
     out: &mut W,
 ) -> Result<(), Fault<'a>>
-    ensures drawn { OnOk result (ShowsRun html transcript.now.servers
+    ensures drawn { OnOk result (ShowsRun html file.now transcript.now.servers
         (length transcript.now.nodes.items) (length transcript.now.events.items)
         (W.contents out.old) (W.contents out.new)) }
     ensures left { IfErr result (λ fault. fault ≢ faults.Output → out.new ≡ out.old) }
@@ -53,7 +55,7 @@ fn print_drawn<'a, W: Write>(
     ensures of_run { IfErr result IsOfRun }
 {
     if html {
-        print_page(alloc, transcript, out)
+        print_page(alloc, file, transcript, out)
     } else {
         print_picture(alloc, transcript, out)
     }
@@ -61,10 +63,11 @@ fn print_drawn<'a, W: Write>(
 
 fn print_page<'a, W: Write>(
     alloc: Global,
+    file: &str,
     transcript: &Transcript,
     out: &mut W,
 ) -> Result<(), Fault<'a>>
-    ensures page { OnOk result (GrowsByPage transcript.now.servers
+    ensures page { OnOk result (GrowsByPage file.now transcript.now.servers
         (length transcript.now.nodes.items) (length transcript.now.events.items)
         (W.contents out.old) (W.contents out.new)) }
     ensures left { IfErr result (λ fault. fault ≢ faults.Output → out.new ≡ out.old) }
@@ -73,7 +76,7 @@ fn print_page<'a, W: Write>(
 {
     let nodes = transcript.nodes.as_slice();
     let events = transcript.events.as_slice();
-    match page(alloc, transcript.servers, nodes, events, out) {
+    match page(alloc, file, transcript.servers, nodes, events, out) {
         Ok(()) => Ok(()),
         Err(error) => Err(fault_of(error)),
     }

@@ -1,6 +1,8 @@
 //! A transcript's file, told event by event, or how its group stands after some of them.
 ghost use Rattle.std.specs.Prelude.{◌≡◌, ◌≢◌, ◌⊎◌, ℕ, IfErr, IfNone, IfOk, IfSome, OnOk, length, option_map};
-ghost use Rattle.inspection.specs.Told.{GrowsByEventLines, GrowsByLines};
+ghost use Rattle.inspection.specs.Told.{GrowsByLines};
+ghost use Rattle.telling.specs.Told.{GrowsByEventLines};
+ghost use Rattle.playback.specs.declared.fault.PlaybackError.TheVariants as stops;
 ghost use Rattle.file_runs.specs.declared.fault.Fault.TheVariants as faults;
 ghost use Rattle.file_runs.specs.Faults.{IsOfRun, IsPastReading};
 ghost use Rattle.runner.specs.Inner.Faults.{form_in, seeing_fault};
@@ -11,9 +13,11 @@ use file_runs::fault::Fault;
 use file_runs::replaying::transcript_of;
 use file_runs::running::load_bytes;
 use file_runs::shelf::Shelf;
-use inspection::{Form, InspectError, inspect, tell};
+use inspection::{Form, InspectError, inspect};
+use playback::PlaybackError;
 use std::alloc::Global;
 use std::io::Write;
+use telling::tell;
 use transcript::Transcript;
 
 /// Tells what each event of a transcript did.
@@ -91,7 +95,8 @@ fn print_events<'a, W: Write>(
     transcript: &Transcript,
     out: &mut W,
 ) -> Result<(), Fault<'a>>
-    ensures lines { OnOk result (GrowsByEventLines (length transcript.now.events.items)
+    ensures lines { OnOk result (GrowsByEventLines transcript.now.servers
+        transcript.now.nodes.items transcript.now.events.items
         (W.contents out.old) (W.contents out.new)) }
     ensures left { IfErr result (λ fault. fault ≢ faults.Output → out.new ≡ out.old) }
     ensures of_run { IfErr result IsOfRun }
@@ -101,7 +106,7 @@ fn print_events<'a, W: Write>(
     let events = transcript.events.as_slice();
     match tell(alloc, transcript.servers, nodes, events, out) {
         Ok(()) => Ok(()),
-        Err(error) => Err(fault_of(error, events.len())),
+        Err(error) => Err(stop_of(error)),
     }
 }
 
@@ -135,5 +140,18 @@ fn fault_of<'a>(error: InspectError, events: usize) -> Fault<'a>
         InspectError::Output => Fault::Output,
         InspectError::NoSuchEvent => Fault::NoSuchEvent(events),
         InspectError::NoMemory | InspectError::Group => Fault::NoMemory,
+    }
+}
+
+// A group of a transcript's size is made, unless there is no memory.
+fn stop_of<'a>(error: PlaybackError) -> Fault<'a>
+    ensures output { error ≡ stops.Output → result ≡ faults.Output }
+    ensures memory { error ≢ stops.Output → result ≡ faults.NoMemory }
+    ensures of_run { IsOfRun result }
+    ensures past { IsPastReading result }
+{
+    match error {
+        PlaybackError::Output => Fault::Output,
+        PlaybackError::NoMemory | PlaybackError::Group => Fault::NoMemory,
     }
 }
