@@ -1,0 +1,4 @@
+pub mod Rests
+pub mod Quiet
+pub mod Looks
+pub mod Parts

@@ -96,7 +96,7 @@ fn put_too_long(
     ensures { OnOk result
         (due.new.items ≡ due.old.items ++ too_long grace ms before.now seen.now) }
 {
-    'each: for what in seen {
+    for what in seen {
         if is_long(before, what, grace, ms) {
             due.push(due_of(*what))?;
         }
@@ -108,7 +108,7 @@ fn put_too_long(
 fn put_drains(drained: &[NodeId], due: &mut Vec<Due>) -> Result<(), NoMemory>
     ensures { OnOk result (due.new.items ≡ due.old.items ++ map DrainTurn drained.now) }
 {
-    'each: for node in drained {
+    for node in drained {
         due.push(Due::DrainTurn(*node))?;
     }
     Ok(())

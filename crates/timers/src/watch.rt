@@ -96,7 +96,7 @@ pub(crate) fn watch_all(
     ensures { IfOk result (λ now. now.items ≡ watch_all grace ms before.now seen.now) }
 {
     let mut now = Vec::new(alloc);
-    'each: for what in seen {
+    for what in seen {
         let long = so_long(before, what, ms);
         now.push(seen_for(grace, *what, long))?;
     }
