@@ -25,13 +25,13 @@ use Rattle.raft_snapshot.specs.Stored.{Stored}
 use Rattle.raft_snapshot.specs.Texts.{front, stable_at, stable_text}
 use Rattle.raft_snapshot.proofs.TextLaws.{front_lawful}
 use Rattle.journal.specs.Events.{IoEvent, BytesSent, LineReported}
-use Rattle.bank_node.specs.Inner.Before.{Remembers}
+use Rattle.raft_records.specs.Remembering.{Remembers}
 use Rattle.bank_node.specs.Inner.Refusals.{is_memory}
 use Rattle.bank_node.specs.Items.{asked, input_of, is_proposal, is_question, ticket}
 use Rattle.bank_node.specs.Lines.{Shows, refused_line, ticket_line, standing_line, standing_word}
-use Rattle.bank_node.specs.Records.{changed_by, raft_replay, part_read}
+use Rattle.raft_records.specs.Records.{changed_by, raft_replay, part_read}
 use Rattle.bank_node.specs.Turns.{IsDeclined, IsTaken, MayRefuse, Turn, at_fault, by_server, no_ticket, proposed, refused, sends, shown, taken, told}
-use Rattle.bank_node.specs.declared.delta.Before.{Before}
+use Rattle.raft_records.specs.declared.delta.Before.{Before}
 
 -- ---- frames, one after the other
 

@@ -1,4 +1,2 @@
 pub mod Handing
 pub mod Telling
-pub mod Deltas
-pub mod Starting

@@ -2,8 +2,5 @@ pub mod Statuses
 pub mod Items
 pub mod Lines
 pub mod Turns
-pub mod Records
-pub mod Reading
-pub mod Starts
 pub mod Inner
 pub mod Laws

@@ -3,7 +3,6 @@
 //! file before a frame that tells of it leaves.
 #![tactic(auto)]
 
-mod delta;
 mod fault;
 mod lines;
 mod node;

@@ -12,21 +12,22 @@ ghost use Rattle.raft_snapshot.specs.Stored.{Stored};
 ghost use Rattle.journal.specs.Events.{IoEvent, AreOutputs, BytesSent, LineReported};
 ghost use Rattle.journal.specs.Replays.{Replay};
 ghost use Rattle.journal.specs.Savings.{output_event, IsSaving};
-ghost use Rattle.bank_node.specs.Inner.Before.{Remembers};
+ghost use Rattle.raft_records.specs.Remembering.{Remembers};
 ghost use Rattle.bank_node.specs.Inner.Refusals.{is_memory};
 ghost use Rattle.bank_node.specs.Laws.Outputs.{outputs_alone};
 ghost use Rattle.bank_node.specs.Items.{asked, begins_with, input_of, is_proposal, is_question, ticket};
 ghost use Rattle.bank_node.specs.Lines.{Shows, refused_line, ticket_line, standing_line, standing_word};
-ghost use Rattle.bank_node.specs.Records.{IsDelta, raft_replay};
+ghost use Rattle.raft_records.specs.Records.{IsDelta, raft_replay};
 ghost use Rattle.bank_node.specs.Turns.{Turn, IsTaken, IsDeclined, sends};
-ghost use Rattle.bank_node.specs.declared.delta.LogDelta.TheVariants as deltas;
+ghost use Rattle.raft_records.specs.declared.delta.LogDelta.TheVariants as deltas;
 
-use crate::delta::{Before, LogDelta, changed, joined, remember};
+
 use crate::lines::{Words, refused_line, standing_line, standing_word, status_line, ticket_line};
 use fields::{read_index, read_term};
 use journal::{Actor, Out, Saving, item_of};
 use machine::Machine;
 use raft_core::{Input, Raft, Ticket};
+use raft_records::{Before, LogDelta, changed, joined, remember};
 use raft_snapshot::{Stable, changes_lead, stable_texts_are_whole};
 use rows::{Index, NoMemory, Refusal, Term, Version};
 use std::alloc::Global;

@@ -1,22 +1,17 @@
 //! What a server starts from.
 
-ghost use Rattle.std.specs.Prelude.{◌≡◌, ◌≤◌, ℕ, None, Some, true, IfErr, IfOk, OnOk, drop, length, option_map};
-ghost use Rattle.rows.specs.Versions.{newest};
-ghost use Rattle.fields_model.specs.Format.{Gives, whole};
-ghost use Rattle.raft_snapshot.specs.Texts.{front};
+ghost use Rattle.std.specs.Prelude.{◌≡◌, ℕ, true, IfErr, IfOk, option_map};
 ghost use Rattle.raft_core.specs.Steps.{IsGroupMember, Represents, Stores};
 ghost use Rattle.raft_core.specs.StoredParts.{stored_part};
 ghost use Rattle.raft_model.specs.Rafts.{Raft as AnyRaft, restarted};
-ghost use Rattle.bank_node.specs.Records.{raft_replay};
-ghost use Rattle.bank_node.specs.Starts.{FaultAt, IsBadStore, IsStored, ReplaysTo};
+ghost use Rattle.raft_records.specs.Starts.{IsBadStore, IsStored};
 ghost use Rattle.bank_node.specs.Statuses.{is_of_beginning};
 ghost use Rattle.bank_node.specs.declared.fault.Fault.TheVariants as faults;
 
 use crate::fault::Fault;
-use journal::{MAGIC, may_be_torn, next_record};
 use machine::Machine;
 use raft_core::Raft;
-use raft_snapshot::{Front, Stable, read_change, read_stable, take_change};
+use raft_records::{Unread, stable_of};
 use rows::{Refusal, ServerId};
 use std::alloc::Global;
 
@@ -39,120 +34,17 @@ pub fn begin<M: Machine>(
         IsBadStore M.meaning header.now (option_map (λ text. text.now) stored.entry) place) }
     ensures early { IfErr result (λ fault. is_of_beginning fault ≡ true) }
 {
-    let stable = stable_of(alloc, header, stored)?;
+    let stable = match stable_of(alloc, header, stored) {
+        Ok(stable) => stable,
+        Err(Unread::NoMemory) => return Err(Fault::NoMemory),
+        Err(Unread::Another) => return Err(Fault::Another),
+        Err(Unread::At(place)) => return Err(Fault::BadStore(place)),
+    };
     match Raft::restart(alloc, me, size, stable) {
         Ok(server) => Ok(server),
         Err(refused) => match refused.refusal {
             Refusal::NoMemory => Err(Fault::NoMemory),
             _ => Err(Fault::Usage),
         },
-    }
-}
-
-/// What the store has, or where there is none what a new server stores.
-fn stable_of<M: Machine>(
-    alloc: Global,
-    header: &[u8],
-    stored: Option<&[u8]>,
-) -> Result<Stable<M>, Fault>
-    ensures stored { IfOk result (IsStored M.meaning header.now
-        (option_map (λ text. text.now) stored.entry)) }
-    ensures usage { IfErr result (λ fault. fault ≡ faults.Usage → ⊥) }
-    ensures fault { IfErr result (λ fault. (place : ℕ) → fault ≡ faults.BadStore place →
-        IsBadStore M.meaning header.now (option_map (λ text. text.now) stored.entry) place) }
-    ensures early { IfErr result (λ fault. is_of_beginning fault ≡ true) }
-{
-    let Some(bytes) = stored else {
-        return Ok(Stable::new(alloc));
-    };
-    if bytes.starts_with(header) {
-        return from_journal(alloc, bytes, header.len());
-    }
-    if bytes.starts_with(MAGIC) {
-        return Err(Fault::Another);
-    }
-    match read_stable(alloc, bytes) {
-        Ok(stable) => Ok(stable),
-        Err(Refusal::Frame(place)) => Err(Fault::BadStore(place)),
-        Err(_) => Err(Fault::NoMemory),
-    }
-}
-
-/// The whole of what was stored, from the payload of a journal's first record.
-fn whole_of<M: Machine>(alloc: Global, payload: &[u8], at: usize) -> Result<Stable<M>, Fault>
-    ensures whole { IfOk result (λ s. (raft_replay M.meaning).whole payload.now ≡ Some s) }
-    ensures fault { IfErr result (λ fault. (place : ℕ) → fault ≡ faults.BadStore place →
-        (place ≡ at) × ((raft_replay M.meaning).whole payload.now ≡ None)) }
-    ensures early { IfErr result (λ fault. is_of_beginning fault ≡ true) }
-    ensures usage { IfErr result (λ fault. fault ≡ faults.Usage → ⊥) }
-{
-    match read_stable(alloc, payload) {
-        Ok(stable) => Ok(stable),
-        Err(Refusal::Frame(_)) => Err(Fault::BadStore(at)),
-        Err(_) => Err(Fault::NoMemory),
-    }
-}
-
-/// The change that is all of a payload.
-fn change_of<M: Machine>(alloc: Global, payload: &[u8]) -> Result<Front<M>, Refusal>
-    ensures { Gives result (whole (front (M.meaning.commands newest)) payload.now) }
-{
-    let (change, end) = read_change(alloc, payload, 0)?;
-    if end == payload.len() {
-        Ok(change)
-    } else {
-        Err(Refusal::Frame(end))
-    }
-}
-
-/// What is stored after one record more of a journal; the record stands at an offset.
-fn follow<M: Machine>(
-    alloc: Global,
-    stable: &mut Stable<M>,
-    payload: &[u8],
-    at: usize,
-) -> Result<(), Fault>
-    ensures after { OnOk result
-        ((raft_replay M.meaning).after stable.old payload.now ≡ Some stable.new) }
-    ensures fault { IfErr result (λ fault. (place : ℕ) → fault ≡ faults.BadStore place →
-        (place ≡ at) × ((raft_replay M.meaning).after stable.old payload.now ≡ None)) }
-    ensures early { IfErr result (λ fault. is_of_beginning fault ≡ true) }
-    ensures usage { IfErr result (λ fault. fault ≡ faults.Usage → ⊥) }
-{
-    let change = match change_of(alloc, payload) {
-        Ok(change) => change,
-        Err(Refusal::Frame(_)) => return Err(Fault::BadStore(at)),
-        Err(_) => return Err(Fault::NoMemory),
-    };
-    match take_change(stable, change) {
-        Ok(true) => Ok(()),
-        Ok(false) => Err(Fault::BadStore(at)),
-        Err(_) => Err(Fault::NoMemory),
-    }
-}
-
-/// What the records of a journal stand for that stand from an offset on. A record that was being
-/// written may be torn, and is left out; any other fault is at the offset of its record.
-fn from_journal<M: Machine>(alloc: Global, bytes: &[u8], start: usize) -> Result<Stable<M>, Fault>
-    requires { start ≤ length bytes.now }
-    ensures kept { IfOk result (λ s. ReplaysTo M.meaning (drop start bytes.now) s) }
-    ensures fault { IfErr result (λ fault. (place : ℕ) → fault ≡ faults.BadStore place →
-        FaultAt M.meaning bytes.now start place) }
-    ensures early { IfErr result (λ fault. is_of_beginning fault ≡ true) }
-    ensures usage { IfErr result (λ fault. fault ≡ faults.Usage → ⊥) }
-{
-    let Some((payload, next)) = next_record(bytes, start) else {
-        return Err(Fault::BadStore(start));
-    };
-    let mut stable = whole_of(alloc, payload, start)?;
-    let mut at = next;
-    'records: while let Some((payload, next)) = next_record(bytes, at) {
-        follow(alloc, &mut stable, payload, at)?;
-        at = next;
-    }
-    if may_be_torn(bytes, at) {
-        Ok(stable)
-    } else {
-        Err(Fault::BadStore(at))
     }
 }

@@ -3,7 +3,7 @@ use Rattle.std.proofs.lemmas.Result.{on_ok_weaker}
 use Rattle.rows.specs.Versions.{newest}
 use Rattle.raft_core.specs.StoredParts.{stored_part}
 use Rattle.raft_snapshot.specs.Texts.{stable_at, stable_text}
-use Rattle.bank_node.specs.Records.{part_read}
+use Rattle.raft_records.specs.Records.{part_read}
 use Rattle.bank_node.proofs.Handing.{whole_saved}
 use Rattle.bank_node.proofs.node.NodeActor.whole.Goals as goal
 

@@ -5,7 +5,7 @@ use Rattle.machine_model.specs.Meaning.{Meaning}
 use Rattle.raft_snapshot.specs.Stored.{Stored}
 use Rattle.journal.specs.Records.{wal_record}
 use Rattle.journal.specs.Replays.{replayed}
-use Rattle.bank_node.specs.Records.{raft_replay}
+use Rattle.raft_records.specs.Records.{raft_replay}
 
 -- the records between these offsets stand for this part
 pub record ReplaysUpTo {S C : Type 0} (m : Meaning S C) (bytes : List ℕ) (start at : ℕ) (part : Stored S C) : Type 0 where

@@ -1,6 +1,6 @@
 use Rattle.std.proofs.Common.{◌≤◌, ◌-◌, length}
-use Rattle.bank_node.specs.Reading.{ReplaysUpTo}
-use Rattle.bank_node.proofs.start.from_journal.Given as goal
+use Rattle.raft_records.specs.Reading.{ReplaysUpTo}
+use Rattle.raft_records.proofs.reading.from_journal.Given as goal
 
 -- what the records up to here stand for
 abbrev pub invariant-records : goal.invariant-records

@@ -1,8 +1,8 @@
 use Rattle.std.proofs.Common.{◌≡◌, Err, arith, rules}
 use Rattle.journal.proofs.Scanning.{one_further}
-use Rattle.bank_node.specs.Starts.{no_record, no_whole}
-use Rattle.bank_node.proofs.Starting.{read_first, read_more, read_all, fault_there, tail_there}
-use Rattle.bank_node.proofs.start.from_journal.Goals as goal
+use Rattle.raft_records.specs.Starts.{no_record, no_whole}
+use Rattle.raft_records.proofs.Starting.{read_first, read_more, read_all, fault_there, tail_there}
+use Rattle.raft_records.proofs.reading.from_journal.Goals as goal
 
 pub records-init : goal.records-init
 records-init g c =

@@ -1,8 +1,8 @@
 use Rattle.std.proofs.Common.{option_map, ap}
 use Rattle.std.proofs.lemmas.Bool.Decides.{Decides-eqb}
 use Rattle.std.proofs.lemmas.Slice.Eq.{starts_is}
-use Rattle.bank_node.proofs.Starting.{bad_behind, behind_header}
-use Rattle.bank_node.proofs.start.stable_of.Goals as goal
+use Rattle.raft_records.proofs.Starting.{bad_behind, behind_header}
+use Rattle.raft_records.proofs.reading.stable_of.Goals as goal
 
 pub returns-then-starts_with-clause-stored : goal.returns-then-starts_with-clause-stored
 returns-then-starts_with-clause-stored g c =

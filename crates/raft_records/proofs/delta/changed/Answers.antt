@@ -1,9 +1,9 @@
 use Rattle.std.proofs.Common.{arith, subst, sym}
 use Rattle.raft_snapshot.specs.Changes.{SharesEntries}
 use Rattle.raft_core.specs.StoredParts.{stored_part}
-use Rattle.bank_node.specs.Inner.Before.{SharesTerms}
-use Rattle.bank_node.proofs.Deltas.{shares, nothing}
-use Rattle.bank_node.proofs.delta.changed.Goals as goal
+use Rattle.raft_records.specs.Remembering.{SharesTerms}
+use Rattle.raft_records.proofs.Deltas.{shares, nothing}
+use Rattle.raft_records.proofs.delta.changed.Goals as goal
 
 pub returns-then-get-keep : goal.returns-then-get-keep
 returns-then-get-keep g c = λ old r keeps.

@@ -10,11 +10,11 @@ use Rattle.journal.specs.Records.{wal_record}
 use Rattle.journal.specs.Replays.{Replay, replayed_on, replayed}
 use Rattle.journal.specs.Tails.{MayBeTorn}
 use Rattle.journal.proofs.RecordLaws.{record_lawful}
-use Rattle.bank_node.specs.Reading.{ReplaysUpTo}
-use Rattle.bank_node.specs.Records.{raft_replay}
-use Rattle.bank_node.specs.declared.fault.Fault.{Fault}
-use Rattle.bank_node.specs.declared.fault.Fault.TheVariants as faults
-use Rattle.bank_node.specs.Starts.{FaultAt, IsBadStore, no_change, no_tail, ReplaysTo, IsStored}
+use Rattle.raft_records.specs.Reading.{ReplaysUpTo}
+use Rattle.raft_records.specs.Records.{raft_replay}
+use Rattle.raft_records.specs.declared.reading.Unread.{Unread}
+use Rattle.raft_records.specs.declared.reading.Unread.TheVariants as unread
+use Rattle.raft_records.specs.Starts.{FaultAt, IsBadStore, no_change, no_tail, ReplaysTo, IsStored}
 
 all_push : {A : Type 0} (P : A → Type 0) (xs : List A) (x : A) → AllByRecursion P xs → P x → AllByRecursion P (xs ++ x ∷ [])
 all_push P [] x all p = (p, tt)
@@ -94,7 +94,7 @@ module _ {S C : Type 0} (m : Meaning S C) where
       → (MayBeTorn (drop at bytes) → ⊥) → FaultAt m bytes start place
   tail_there bytes start at place part x here so read whole = subst (FaultAt m bytes start) here (no_tail part x so read whole)
 
-  pub bad_behind : {T : Type 0} (header bytes : List ℕ) (stored : Option (List ℕ)) (r : Result T Fault) → stored ≡ Some bytes
-      → IfErr r (λ fault. (place : ℕ) → fault ≡ faults.BadStore place → FaultAt m bytes (length header) place) → IfErr r (λ fault. (place : ℕ) → fault ≡ faults.BadStore place → IsBadStore m header stored place)
+  pub bad_behind : {T : Type 0} (header bytes : List ℕ) (stored : Option (List ℕ)) (r : Result T Unread) → stored ≡ Some bytes
+      → IfErr r (λ fault. (place : ℕ) → fault ≡ unread.At place → FaultAt m bytes (length header) place) → IfErr r (λ fault. (place : ℕ) → fault ≡ unread.At place → IsBadStore m header stored place)
   bad_behind header bytes stored (Ok x) is why = tt
   bad_behind header bytes stored (Err fault) is why = λ place e. subst (λ o. IsBadStore m header o place) (sym is) (inl (why place e))

@@ -8,8 +8,8 @@ use Rattle.journal.specs.Journals.{IsJournal}
 use Rattle.journal.specs.Records.{wal_record}
 use Rattle.journal.specs.Replays.{replayed}
 use Rattle.journal.specs.Tails.{MayBeTorn}
-use Rattle.bank_node.specs.Records.{raft_replay}
-use Rattle.bank_node.specs.Reading.{ReplaysUpTo}
+use Rattle.raft_records.specs.Records.{raft_replay}
+use Rattle.raft_records.specs.Reading.{ReplaysUpTo}
 
 module _ {S C : Type 0} (m : Meaning S C) where
   -- what a server stores before its first item
