@@ -1,5 +1,5 @@
 -- What a server's process answers.
-use Rattle.std.specs.Prelude.{◌≡◌, ◌⊎◌, ℕ, Option, Some, None, List, [], ◌∷◌, ◌++◌, codes, decimal}
+use Rattle.std.specs.Prelude.{◌≡◌, ◌⊎◌, ℕ, Option, Some, None, List, [], ◌∷◌, ◌++◌, codes, decimal, length}
 use Rattle.std.specs.List.{Contains}
 use Rattle.fields_model.specs.Format.{spelled}
 use Rattle.rows.specs.Requests.{command_of}
@@ -9,6 +9,9 @@ use Rattle.rows.specs.declared.refusal.Refusal.{Refusal}
 use Rattle.rows.specs.declared.request.OperatorRequest.{OperatorRequest}
 use Rattle.wire.specs.Frames.{sized}
 use Rattle.raft_core.specs.Tickets.{IsTicket, standing_of}
+use Rattle.raft_core.specs.Steps.{role_of}
+use Rattle.raft_core.specs.declared.role.Role.{Role}
+use Rattle.raft_core.specs.declared.role.Role.TheVariants.{Follower, Candidate, Leader}
 use Rattle.raft_core.specs.declared.ticket.Standing.{Standing}
 use Rattle.raft_core.specs.declared.ticket.Standing.TheVariants.{Open, Settled, Lost, Covered}
 use Rattle.group_model.specs.Inputs.{Request}
@@ -18,7 +21,7 @@ use Rattle.server.specs.ServerViews.{IsServer}
 use Rattle.actor.specs.Refusals.{ServerRefuses}
 use Rattle.journal.specs.Events.{IoEvent, BytesSent}
 use Rattle.server_node.specs.declared.asked.Asked.{Asked}
-use Rattle.server_node.specs.Items.{IsLine, IsQuestion, IsRequestLine}
+use Rattle.server_node.specs.Items.{IsLine, IsQuestion, IsRequestLine, IsStatus}
 use Rattle.server_node.specs.Nodes.{NodeView}
 
 -- an item of the output: A, the id of who asked, and a text
@@ -40,6 +43,16 @@ standing_word (Some Settled) = codes "committed"
 standing_word (Some Lost) = codes "lost"
 standing_word (Some Covered) = codes "covered"
 
+abbrev pub role_word : Option Role → List ℕ
+role_word None = codes "down"
+role_word (Some Follower) = codes "follower"
+role_word (Some Candidate) = codes "candidate"
+role_word (Some Leader) = codes "leader"
+
+-- `server ROLE term T last L`
+abbrev pub status_text : Option Role → ℕ → ℕ → List ℕ
+status_text role term last = codes "server " ++ (role_word role ++ (codes " term " ++ (decimal term ++ (codes " last " ++ decimal last))))
+
 -- Where a command stands that an operator's line asked for.
 pub record IsTicketFor (new : NodeView) (line : List ℕ) (index term : ℕ) : Type 0 where
   pub request : OperatorRequest
@@ -58,6 +71,9 @@ pub data IsAnswer (item : List ℕ) (old new : NodeView) (event : IoEvent) : Typ
   asked : (id index term : ℕ) (standing : Option Standing) → IsQuestion item id index term
       → ((s : Server) → IsServer new.server s → standing ≡ standing_of s.raft index term)
       → event ≡ answer id (placed_text (standing_word standing) index term) → IsAnswer item old new event
+  shown : (id : ℕ) (text : List ℕ) → IsStatus item id
+      → ((s : Server) → IsServer new.server s → text ≡ status_text (role_of s.raft.mode) s.raft.term (length s.raft.log))
+      → event ≡ answer id text → IsAnswer item old new event
   settled : (a : Asked) (standing : Standing) → Contains old.asked a ⊎ Contains new.asked a
-      → ((s : Server) → IsServer new.server s → standing_of s.raft a.index a.term ≡ Some standing)
-      → event ≡ answer a.id (placed_text (standing_word (Some standing)) a.index a.term) → IsAnswer item old new event
+      → ((s : Server) → IsServer new.server s → standing_of s.raft a.ticket.index a.ticket.term ≡ Some standing)
+      → event ≡ answer a.id (placed_text (standing_word (Some standing)) a.ticket.index a.ticket.term) → IsAnswer item old new event

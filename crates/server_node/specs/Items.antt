@@ -19,6 +19,7 @@ pub record IsLine (item : List ℕ) (id : ℕ) (line : List ℕ) : Type 0 where
 -- Q: what became of the command at this index and term
 pub record IsQuestion (item : List ℕ) (id index term : ℕ) : Type 0 where
   pub below : id < 2 ^ 64
+  pub place : (index < 2 ^ 40) × (term < 2 ^ 40)
   pub is : item ≡ 81 ∷ (spelled 8 id ++ (spelled 8 index ++ spelled 8 term))
 
 -- S: how the server stands

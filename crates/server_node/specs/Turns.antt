@@ -8,6 +8,14 @@ use Rattle.group_inputs.specs.Handings.{Handing, FrameBytes, OwnInput}
 use Rattle.server.specs.declared.server.Outbox.{Outbox}
 use Rattle.actor.specs.Answers.{nothing_sent}
 use Rattle.journal.specs.Events.{IoEvent, BytesSent, LineReported}
+use Rattle.rows.specs.declared.command.Command.{Command}
+use Rattle.cluster_model.specs.Words.{State}
+use Rattle.raft_core.specs.StoredParts.{stored_part}
+use Rattle.raft_snapshot.specs.Stored.{Stored}
+use Rattle.raft_records.specs.Records.{IsDelta}
+use Rattle.raft_records.specs.declared.delta.LogDelta.{LogDelta}
+use Rattle.journal.specs.Savings.{output_event}
+use Rattle.journal.specs.declared.storing.Out.{Out}
 use Rattle.server_node.specs.Items.{IsFrame, IsLine, IsRequestLine, IsTime}
 use Rattle.server_node.specs.Nodes.{NodeView}
 use Rattle.server_node.specs.Handed.{HandsAll}
@@ -41,3 +49,18 @@ pub record Turn (item : List ℕ) (old new : NodeView) (events : List IoEvent) :
   pub answers : List IoEvent
   pub told : AllByRecursion (IsTold item old new) answers
   pub is : events ≡ sends sent.frames ++ answers
+
+-- what its journal keeps: what the server's part of the log stores
+abbrev pub stored_by : NodeView → Stored State Command
+stored_by v = stored_part v.server.raft
+
+-- The first part of a turn, from these outboxes, changes and answers to the others: what the item
+-- lets be handed in was handed in, and what it let be answered at once was put behind.
+pub record WentBy (item : List ℕ) (old new : NodeView) (change changed : LogDelta) (before after : Outbox) (answers answered : List Out) : Type 0 where
+  pub handed : List Handing
+  pub by : IsHandedBy item old handed
+  pub all : HandsAll old.server before handed new.server after
+  pub more : List IoEvent
+  pub told : AllByRecursion (IsTold item old new) more
+  pub put : map output_event answered ≡ map output_event answers ++ more
+  pub kept : (first : Stored State Command) → IsDelta change first (stored_by old) → IsDelta changed first (stored_by new)
