@@ -1,7 +1,7 @@
 //! What the timers see of a server.
-ghost use Rattle.std.specs.Prelude.{◌≡◌};
+ghost use Rattle.std.specs.Prelude.{◌≡◌, IfOk};
 ghost use Rattle.raft_model.specs.Rafts.{is_leader};
-ghost use Rattle.server_node.specs.Passing.{leader_of};
+ghost use Rattle.server_node.specs.Passing.{SeesDesk, leader_of};
 
 use crate::handing::log_of;
 use fsm_state::Cluster;
@@ -92,7 +92,13 @@ fn look_at_deliveries(state: &Cluster, desk: &Desk, sights: &mut Sights) -> Resu
 }
 
 /// What a leader's timers look at; nothing, where its desk is closed.
-pub fn look(alloc: Global, server: &Server) -> Result<Sights, NoMemory> {
+pub fn look(alloc: Global, server: &Server) -> Result<Sights, NoMemory>
+    ensures { IfOk result (λ sights. SeesDesk server.now (record {
+        nodes = sights.nodes.items;
+        deliveries = sights.deliveries.items;
+        drained = sights.drained.items;
+    })) }
+{
     let mut sights = no_sights(alloc);
     if let Some(state) = server.state() {
         look_at_nodes(state, server.desk(), &mut sights)?;

@@ -1,5 +1,5 @@
 -- What a client does by itself once so many milliseconds have passed.
-use Rattle.std.specs.Prelude.{ℕ, ◌&&◌, Bool, not, if◌then◌else◌, List, [], ◌∷◌, ◌++◌}
+use Rattle.std.specs.Prelude.{ℕ, Bool, if◌then◌else◌, List, [], ◌∷◌, ◌++◌}
 use Rattle.timers.specs.declared.settings.ClientSettings.{ClientSettings}
 use Rattle.timers.specs.declared.period.Period.{Period}
 use Rattle.timers.specs.declared.client_timers.ClientDue.{ClientDue}
@@ -23,10 +23,10 @@ client_begun s = record {
 abbrev pub once : Bool → ClientDue → List ClientDue
 once so due = if so then due ∷ [] else []
 
--- a Register in its turn, where it does not know that it is registered; a Ping and a Pull in theirs
-abbrev pub client_due : ℕ → ClientTimes → Bool → List ClientDue
-client_due ms t registered =
-    once (not registered && is_due ms t.register) Register
+-- a Register, a Ping and a Pull in their turns
+abbrev pub client_due : ℕ → ClientTimes → List ClientDue
+client_due ms t =
+    once (is_due ms t.register) Register
     ++ (once (is_due ms t.ping) Ping
     ++ once (is_due ms t.pull) Pull)
 

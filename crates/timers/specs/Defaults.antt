@@ -18,4 +18,4 @@ default_settings = record {
 }
 
 abbrev pub default_client_settings : ClientSettings
-default_client_settings = record { register = 1000; ping = 5000; pull = 500 }
+default_client_settings = record { register = 5000; ping = 5000; pull = 500 }

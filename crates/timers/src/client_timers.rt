@@ -1,5 +1,5 @@
 //! What a client does by itself.
-ghost use Rattle.std.specs.Prelude.{◌≡◌, ◌++◌, IfOk, OnErr, OnOk, not};
+ghost use Rattle.std.specs.Prelude.{◌≡◌, ◌++◌, IfOk, OnErr, OnOk};
 ghost use Rattle.timers.specs.ClientTimes.{client_begun, client_due, client_after, once};
 
 use crate::period::Period;
@@ -57,24 +57,17 @@ impl ClientTimers {
         }
     }
 
-    /// So many milliseconds pass. What is due, in order; it registers while it does not know that it
-    /// is registered.
+    /// So many milliseconds pass. What is due, in order.
     /// - `due`: just this is due.
     /// - `later`: what is left of each wait.
     /// - `err`: without memory nothing changes.
-    pub fn pass(
-        &mut self,
-        alloc: Global,
-        ms: u32,
-        registered: bool,
-    ) -> Result<Vec<ClientDue>, NoMemory>
-        ensures due { IfOk result (λ due. due.items ≡ client_due ms self.old registered) }
+    pub fn pass(&mut self, alloc: Global, ms: u32) -> Result<Vec<ClientDue>, NoMemory>
+        ensures due { IfOk result (λ due. due.items ≡ client_due ms self.old) }
         ensures later { OnOk result (self.new ≡ client_after ms self.old) }
         ensures err { OnErr result (self.new ≡ self.old) }
     {
         let mut due = Vec::new(alloc);
-        let register = !registered && self.register.is_due(ms);
-        put_once(register, ClientDue::Register, &mut due)?;
+        put_once(self.register.is_due(ms), ClientDue::Register, &mut due)?;
         put_once(self.ping.is_due(ms), ClientDue::Ping, &mut due)?;
         put_once(self.pull.is_due(ms), ClientDue::Pull, &mut due)?;
         self.register.pass(ms);

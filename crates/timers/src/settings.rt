@@ -48,8 +48,8 @@ pub struct Settings {
 /// time.
 #[derive(Clone, Copy, Debug, PartialEq, Eq)]
 pub struct ClientSettings {
-    /// How often it registers while it does not know that it is registered. 15,000 is Nomad's pause
-    /// before another try; here a lost message is a try that failed, so 1,000.
+    /// How often it registers, also where it is registered: a node that went down comes back so, and
+    /// what would change nothing is not appended. 5,000 is this project's own.
     pub register: u32,
     /// How often it sends a heartbeat. 5,000 is half of Nomad's `min_heartbeat_ttl`, so that one
     /// may be lost.
@@ -86,7 +86,7 @@ impl ClientSettings {
         ensures { result ≡ default_client_settings }
     {
         ClientSettings {
-            register: 1_000,
+            register: 5_000,
             ping: 5_000,
             pull: 500,
         }
