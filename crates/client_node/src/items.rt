@@ -13,22 +13,20 @@ use rows::{AllocId, ClientId, NoMemory, Refusal};
 use std::alloc::Global;
 use std::str;
 
-/// Whether an item is a frame: it begins with none of the letters of the others.
-pub fn is_frame(item: &[u8]) -> bool
-    ensures { MatchBool result (IsFrame item.now) (IsFrame item.now → ⊥) }
-{
-    match item.first() {
-        Some(b'K') | Some(b'E') => false,
-        _ => true,
-    }
-}
-
 /// Whether an item begins with a letter.
 fn begins_with(item: &[u8], letter: u8) -> bool
     ensures { MatchBool result ((behind : List ℕ) × (item.now ≡ letter ∷ behind))
         ((behind : List ℕ) → item.now ≡ letter ∷ behind → ⊥) }
 {
     !item.is_empty() && item[0] == letter
+}
+
+/// Whether an item is a frame: it begins with none of the letters of the others.
+pub fn is_frame(item: &[u8]) -> bool
+    ensures { MatchBool result (IsFrame item.now) (IsFrame item.now → ⊥) }
+{
+    let other = begins_with(item, b'K') || begins_with(item, b'E');
+    !other
 }
 
 /// The milliseconds that an item says have passed.

@@ -14,7 +14,8 @@ use Rattle.timers.specs.declared.watch.Sighting.{Sighting}
 use Rattle.timers.specs.declared.watch.Sighting.TheVariants as sightings
 use Rattle.rows.specs.declared.evaluation.EvalId.{EvalId}
 use Rattle.rows.specs.declared.token.Token.{Token}
-use Rattle.group_model.specs.Brokers.{task_of, pair_of}
+use Rattle.eval_broker.specs.Answers.{pair_of}
+use Rattle.group_model.specs.Brokers.{task_of}
 use Rattle.group_model.specs.Expiry.{beat_count_of}
 use Rattle.leader.specs.OpenDesks.{OpenDesk}
 use Rattle.server_node.specs.Nodes.{NodeView}

@@ -1,11 +1,13 @@
 //! What is handed to the server, one after the other.
-ghost use Rattle.std.specs.Prelude.{◌≡◌, IfOk, MatchOption, OnOk};
+ghost use Rattle.std.specs.Prelude.{◌≡◌, IfOk, IfSome, MatchOption, OnOk};
 ghost use Rattle.rows.specs.declared.command.Command.{Command};
 ghost use Rattle.cluster_model.specs.Words.{State};
 ghost use Rattle.group_inputs.specs.Handings.{FrameBytes, handing};
-ghost use Rattle.raft_core.specs.StoredParts.{stored_part};
+ghost use Rattle.raft_core.specs.RaftView.{RaftView};
+ghost use Rattle.raft_core.specs.StoredParts.{stored_part, KeepsLog};
 ghost use Rattle.raft_snapshot.specs.Stored.{Stored};
 ghost use Rattle.raft_records.specs.Records.{IsDelta};
+ghost use Rattle.raft_records.specs.Remembering.{Remembers};
 ghost use Rattle.actor.specs.Answers.{ServerSteps};
 ghost use Rattle.actor.specs.Refusals.{ServerRefuses};
 ghost use Rattle.server_node.specs.Handed.{Hands, IsOwn};
@@ -28,7 +30,11 @@ pub fn log_of(server: &Server) -> &Raft<Cluster>
 
 /// What a step changed of what the server stores, by what was remembered before. Of a Compact it is
 /// not asked.
-fn delta_of(server: &Server, before: &Option<Before>) -> LogDelta {
+fn delta_of(server: &Server, before: &Option<Before>) -> LogDelta
+    ensures { (old : RaftView State Command) → IfSome before.now (λ b. Remembers b old) →
+        (server.now.raft.base.index ≡ old.base.index → KeepsLog old server.now.raft) →
+        IsDelta result (stored_part old) (stored_part server.now.raft) }
+{
     match before {
         Some(before) => changed(log_of(server), before),
         None => LogDelta::Whole,

@@ -14,11 +14,11 @@ pub struct Settings {
     /// Nomad's Raft library draws. (Raft, extended version 2014, section 5.2: split votes are rare
     /// where waits are random.)
     pub more_wait: u16,
-    /// How often a leader is heard of, whatever there is to send. 100 is the mean of Nomad's Raft
-    /// library, a tenth of its heartbeat timeout.
+    /// How often a leader is heard of, whatever there is to send. 100 is the least pause of Nomad's
+    /// Raft library, a tenth of its heartbeat timeout.
     pub beat: u32,
     /// How often a server that has idle workers asks for an evaluation. Nomad's workers wait at the
-    /// leader in place of this; 20 is the first pause after which they ask again.
+    /// leader in place of this; 20 is their first pause after a failure.
     pub take: u32,
     /// How often the plan that goes first is judged. Nomad's leader judges each as it comes, so 0.
     pub plan: u32,
@@ -32,15 +32,13 @@ pub struct Settings {
     /// library looks whether it should.
     pub compact: u32,
     /// How often a leader looks at deliveries and nodes: a drain has a turn then, and what was
-    /// waited for long enough is seen. 250 is the pause of Nomad's drainer between two batches of
-    /// changes, as far as this project read it.
+    /// waited for long enough is seen. 250 is this project's own: it takes time of the state.
     pub look: u32,
     /// How long a node may be unheard of before it expires. 20,000 is Nomad's `min_heartbeat_ttl`
     /// and `heartbeat_grace`, of 10,000 each. (Nomad documentation, "server" block of the agent
     /// configuration.)
     pub expire: u32,
-    /// How long a worker may keep an evaluation before it is given to another: 60,000, as Nomad's
-    /// `nack_timeout` of the evaluation broker.
+    /// How long a worker may keep an evaluation before it is given to another: 60,000 is Nomad's.
     pub lapse: u32,
 }
 
