@@ -1,3 +1,4 @@
+pub mod Sums
 pub mod Rests
 pub mod Quiet
 pub mod Looks

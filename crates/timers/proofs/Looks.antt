@@ -44,21 +44,24 @@ at_most : (b : Bool) (long : ℕ) → cond b long 0 ≤ long
 at_most true long = omega arith
 at_most false long = omega arith
 
+-- one that is seen was seen, or is looked for among the others
+by_same : (b : Bool) (ms short long bound rest : ℕ) (among : Bool) → (b ≡ true → short ≤ bound) → rest ≤ cond among (ms + bound) 0
+    → cond b (short + ms) rest ≤ cond (b || among) (ms + bound) 0
+by_same true ms short long bound rest among here there = let low : short ≤ bound = here refl in omega (arith, low)
+by_same false ms short long bound rest among here there = there
+
 -- what is seen for a while after a look was seen at it, and at most as long before
 scanned : (grace ms earlier : ℕ) (before : List Watched) (what : Sighting) (bound : ℕ) → so_long earlier before what ≤ bound → (seen : List Sighting)
     → so_long ms (watch_all grace earlier before seen) what ≤ cond (is_seen what seen) (ms + bound) 0
 scanned grace ms earlier before what bound most [] = omega arith
-scanned grace ms earlier before what bound most (one ∷ seen) = by_same (is_same one what) refl
-  where
-    long : ℕ
-    long = so_long earlier before one
-
-    by_same : (b : Bool) → is_same one what ≡ b → cond b (cond (nat_lt long grace) long 0 + ms) (so_long ms (watch_all grace earlier before seen) what) ≤ cond (b || is_seen what seen) (ms + bound) 0
-    by_same true e =
-        let here : long ≤ bound = subst (λ (x : Sighting). so_long earlier before x ≤ bound) (sym (same_is one what e)) most in
-        let least = at_most (nat_lt long grace) long in
-        omega (arith, here, least)
-    by_same false e = scanned grace ms earlier before what bound most seen
+scanned grace ms earlier before what bound most (one ∷ seen) =
+    let long = so_long earlier before one in
+    by_same (is_same one what) ms (cond (nat_lt long grace) long 0) long bound (so_long ms (watch_all grace earlier before seen) what) (is_seen what seen)
+    (λ e.
+    let here : long ≤ bound = subst (λ (x : Sighting). so_long earlier before x ≤ bound) (sym (same_is one what e)) most in
+    let least = at_most (nat_lt long grace) long in
+    omega (arith, here, least))
+    (scanned grace ms earlier before what bound most seen)
 
 pub no_longer : (grace : ℕ) (look : Look) (older : List Look) (what : Sighting) → so_long look.ms (watched_after grace older) what ≤ unbroken what (look ∷ older)
 no_longer grace look [] what = omega arith

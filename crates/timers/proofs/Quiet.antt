@@ -3,11 +3,12 @@ use Rattle.std.proofs.Common.{◌≡◌, ◌∙◌, ℕ, zero, suc, ◌+◌, ◌
 use Rattle.std.specs.Prelude.{sum}
 use Rattle.std.proofs.lemmas.Bool.{leb-true, le-leb}
 use Rattle.std.proofs.Math.Nat.{mod-lt}
+use Rattle.timers.proofs.Sums.{sum_cons}
 use Rattle.lossy_net.specs.Words.{nth_word}
 use Rattle.timers.specs.declared.settings.Settings.{Settings}
 use Rattle.timers.specs.Waits.{AreQuiet, EndsInTime, IsDrawnWithin, Waiting, first_wait, is_over, waited, waited_all, waits_anew}
 
-waits_on : Waiting → ℕ → Waiting
+abbrev waits_on : Waiting → ℕ → Waiting
 waits_on w ms = record w { passed = w.passed + ms }
 
 one_quiet : (w : Waiting) (ms : ℕ) (b : Bool) → b ≡ false → cond b (waits_anew w) (waits_on w ms) ≡ waits_on w ms
@@ -23,9 +24,10 @@ ends_in_time w (first ∷ items) ms quiet =
     let on : waited first w ≡ waits_on w first = one_quiet w first (is_over first w) quiet.0 in
     let rest = ends_in_time (waits_on w first) items ms (subst (λ v. AreQuiet v items) on quiet.1) in
     let same : is_over ms (waited_all (waited first w) items) ≡ is_over ms (waited_all (waits_on w first) items) = ap (λ v. is_over ms (waited_all v items)) on in
+    let all : sum (first ∷ items) ≡ first + sum items = sum_cons first items in
     record {
-      after = λ over. let least = rest.after (sym same ∙ over) in omega (arith, least);
-      by = λ least. same ∙ rest.by (omega (arith, least));
+      after = λ over. let least = rest.after (sym same ∙ over) in omega (arith, least, all);
+      by = λ least. same ∙ rest.by (omega (arith, least, all));
     }
 
 within : (least more word : ℕ) → (least ≤ least + word % suc more) × (least + word % suc more ≤ least + more)

@@ -1,5 +1,5 @@
 //! What a server does by itself.
-ghost use Rattle.std.specs.Prelude.{◌≡◌, ◌<◌, ◌^◌, ◌++◌, IfOk, OnOk, OnErr, map};
+ghost use Rattle.std.specs.Prelude.{◌≡◌, ◌+◌, ◌<◌, ◌^◌, ◌++◌, true, false, nat_le, IfOk, MatchOption, OnOk, OnErr, map};
 ghost use Rattle.timers.specs.Waits.{waits_anew};
 ghost use Rattle.timers.specs.declared.due.Due.TheVariants.{DrainTurn};
 ghost use Rattle.timers.specs.ServerTimes.{at_look, begun, beat_after, beats, due_after, due_of, looked_after, looks, of_leader, of_term, once, sights, times_after, too_long, turned, watches_on};
@@ -61,6 +61,19 @@ fn of_term(term: Term, its: Term, before: &[Watched]) -> &[Watched]
         before
     } else {
         &before[..0]
+    }
+}
+
+/// How long ago they looked, where they do not look once so many more milliseconds have passed.
+fn since_look(looked: u32, ms: u32, look: u32) -> Option<u32>
+    ensures { MatchOption result (nat_le look (looked + ms) ≡ true)
+        (λ since. (since ≡ looked + ms) × (nat_le look (looked + ms) ≡ false)) }
+{
+    let total = u64::from(looked) + u64::from(ms);
+    if total < u64::from(look) {
+        Some(total as u32)
+    } else {
+        None
     }
 }
 
@@ -293,10 +306,9 @@ impl ServerTimers {
         ensures err { OnErr result (self.new ≡ self.old) }
     {
         let due = self.due_after(alloc, ms, seen, looked)?;
-        if self.looks(ms) {
-            self.look(alloc, ms, seen, looked)?;
-        } else {
-            self.looked = (u64::from(self.looked) + u64::from(ms)) as u32;
+        match since_look(self.looked, ms, self.settings.look) {
+            Some(since) => self.looked = since,
+            None => self.look(alloc, ms, seen, looked)?,
         }
         self.turn(ms, seen);
         Ok(due)
