@@ -59,7 +59,7 @@ pub data IsHandedBy (item : List ℕ) (old : NodeView) (handed : List ClientInpu
 
 -- `start ID` and `stop ID`: an id is an index and a place, with a dot between
 abbrev pub id_text : AllocId → List ℕ
-id_text id = decimal id.index ++ (46 ∷ decimal id.slot)
+id_text id = decimal id.index ++ (codes "." ++ decimal id.slot)
 
 abbrev pub sends : List Frame → List IoEvent
 sends frames = map (λ (frame : Frame). BytesSent (sized frame.bytes)) frames
@@ -78,7 +78,7 @@ is_not_among ids id = not (list_any (same_alloc id) ids)
 
 -- `start ID` or `stop ID`, as an item of the output
 abbrev pub said_of : List ℕ → AllocId → IoEvent
-said_of word id = BytesSent (sized (word ++ (32 ∷ id_text id)))
+said_of word id = BytesSent (sized (word ++ (codes " " ++ id_text id)))
 
 -- `stop` of each that ran and does not run now, and `start` of each that runs now and did not run
 abbrev pub said_between : AgentView → AgentView → List IoEvent

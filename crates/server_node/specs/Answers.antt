@@ -4,7 +4,7 @@ use Rattle.std.specs.List.{Contains}
 use Rattle.fields_model.specs.Format.{spelled}
 use Rattle.rows.specs.Requests.{command_of}
 use Rattle.rows.specs.Words.{refusal_words}
-use Rattle.rows.specs.Refusals.{refusal_number}
+use Rattle.rows.specs.Refusals.{number_of}
 use Rattle.rows.specs.declared.refusal.Refusal.{Refusal}
 use Rattle.rows.specs.declared.request.OperatorRequest.{OperatorRequest}
 use Rattle.wire.specs.Frames.{sized}
@@ -30,11 +30,11 @@ answer id text = BytesSent (sized (65 ∷ (spelled 8 id ++ text)))
 
 -- `WORD INDEX TERM`
 abbrev pub placed_text : List ℕ → ℕ → ℕ → List ℕ
-placed_text word index term = word ++ (32 ∷ (decimal index ++ (32 ∷ decimal term)))
+placed_text word index term = word ++ (codes " " ++ (decimal index ++ (codes " " ++ decimal term)))
 
 -- `refused N: WORDS`
 abbrev pub refused_text : Refusal → List ℕ
-refused_text cause = codes "refused " ++ (decimal (refusal_number cause) ++ (codes ": " ++ refusal_words cause))
+refused_text cause = codes "refused " ++ (decimal (number_of cause) ++ (codes ": " ++ refusal_words cause))
 
 abbrev pub standing_word : Option Standing → List ℕ
 standing_word None = codes "down"
