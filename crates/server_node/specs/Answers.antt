@@ -75,5 +75,5 @@ pub data IsAnswer (item : List ℕ) (old new : NodeView) (event : IoEvent) : Typ
       → ((s : Server) → IsServer new.server s → text ≡ status_text (role_of s.raft.mode) s.raft.term (length s.raft.log))
       → event ≡ answer id text → IsAnswer item old new event
   settled : (a : Asked) (standing : Standing) → Contains old.asked a ⊎ Contains new.asked a
-      → ((s : Server) → IsServer new.server s → standing_of s.raft a.ticket.index a.ticket.term ≡ Some standing)
-      → event ≡ answer a.id (placed_text (standing_word (Some standing)) a.ticket.index a.ticket.term) → IsAnswer item old new event
+      → ((s : Server) → IsServer new.server s → standing_of s.raft a.index a.term ≡ Some standing)
+      → event ≡ answer a.id (placed_text (standing_word (Some standing)) a.index a.term) → IsAnswer item old new event

@@ -9,7 +9,7 @@ ghost use Rattle.server_node.specs.Answers.{answer, placed_text, refused_text, r
 
 use fields::write_u64;
 use journal::{Out, item_of};
-use raft_core::{Role, Standing, Ticket};
+use raft_core::{Role, Standing};
 use rows::{NoMemory, Refusal};
 use server::Server;
 use std::alloc::Global;
@@ -45,12 +45,15 @@ pub fn put_answer(
 }
 
 /// `WORD INDEX TERM`.
-pub fn placed_text(alloc: Global, word: &str, ticket: Ticket) -> Result<Vec<u8>, NoMemory>
-    ensures { IfOk result (λ text. text.items ≡ placed_text word.now ticket.index ticket.term) }
+pub fn placed_text(
+    alloc: Global,
+    word: &str,
+    index: u64,
+    term: u64,
+) -> Result<Vec<u8>, NoMemory>
+    ensures { IfOk result (λ text. text.items ≡ placed_text word.now index term) }
 {
     let mut text = Vec::new(alloc);
-    let index = ticket.index.get();
-    let term = ticket.term.get();
     written(write!(text, "{word} {index} {term}"))?;
     Ok(text)
 }

@@ -9,8 +9,7 @@ ghost use Rattle.server_node.specs.Items.{IsFrame, IsLine, IsQuestion, IsRequest
 use event_texts::read_event;
 use fields::{read_index, read_term, read_u32, read_u64};
 use group_inputs::{Event, ServerInput};
-use raft_core::Ticket;
-use rows::{NoMemory, OperatorRequest, Refusal, ServerId};
+use rows::{Index, NoMemory, OperatorRequest, Refusal, ServerId, Term};
 use std::alloc::Global;
 use std::str;
 
@@ -61,10 +60,10 @@ pub fn read_line(item: &[u8]) -> Option<(u64, &[u8])>
 }
 
 /// The id and the ticket of a question.
-pub fn read_question(item: &[u8]) -> Option<(u64, Ticket)>
+pub fn read_question(item: &[u8]) -> Option<(u64, Index, Term)>
     ensures { MatchOption result
         ((id index term : ℕ) → IsQuestion item.now id index term → ⊥)
-        (λ read. IsQuestion item.now read.0 read.1.index read.1.term) }
+        (λ read. IsQuestion item.now read.0 read.1 read.2) }
 {
     if !begins_with(item, b'Q') {
         return None;
@@ -73,7 +72,7 @@ pub fn read_question(item: &[u8]) -> Option<(u64, Ticket)>
     let (index, at) = read_index(item, at).ok()?;
     let (term, end) = read_term(item, at).ok()?;
     if end == item.len() {
-        Some((id, Ticket { index, term }))
+        Some((id, index, term))
     } else {
         None
     }

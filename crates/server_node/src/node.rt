@@ -28,7 +28,7 @@ use journal::{Actor, Out, Saving, item_of};
 use raft_core::{Standing, Ticket};
 use raft_records::LogDelta;
 use raft_snapshot::{Stable, changes_lead, stable_texts_are_whole};
-use rows::{NoMemory, Refusal};
+use rows::{Index, NoMemory, Refusal, Term};
 use server::{Outbox, Server};
 use std::alloc::Global;
 use std::marker::Model;
@@ -171,7 +171,7 @@ impl ServerNode {
         do_due(
             alloc,
             &mut self.server,
-            leader,
+            &leader,
             due.as_slice(),
             change,
             outbox,
@@ -217,13 +217,11 @@ impl ServerNode {
             let text = refused_text(alloc, cause)?;
             return put_answer(alloc, id, text.as_slice(), answers);
         }
-        let ticket = Ticket {
-            index: self.server.last(),
-            term: self.server.term(),
-        };
-        let text = placed_text(alloc, "ticket", ticket)?;
+        let index = self.server.last();
+        let term = self.server.term();
+        let text = placed_text(alloc, "ticket", index.get(), term.get())?;
         put_answer(alloc, id, text.as_slice(), answers)?;
-        self.asked.push(Asked { id, ticket })?;
+        self.asked.push(Asked { id, index, term })?;
         Ok(())
     }
 
@@ -232,16 +230,17 @@ impl ServerNode {
         &self,
         alloc: Global,
         id: u64,
-        ticket: Ticket,
+        index: Index,
+        term: Term,
         item: &[u8],
         answers: &mut Vec<Out>,
     ) -> Result<(), NoMemory>
-        requires { IsQuestion item.now id ticket.index ticket.term }
+        requires { IsQuestion item.now id index term }
         ensures { OnOk result ((more : List IoEvent) × AllByRecursion (IsTold item.now self.now self.now) more
             × (map output_event answers.new.items ≡ map output_event answers.old.items ++ more)) }
     {
-        let word = standing_word(self.server.standing(ticket));
-        let text = placed_text(alloc, word, ticket)?;
+        let word = standing_word(self.server.standing(Ticket { index, term }));
+        let text = placed_text(alloc, word, index.get(), term.get())?;
         put_answer(alloc, id, text.as_slice(), answers)
     }
 
@@ -280,10 +279,13 @@ impl ServerNode {
         }
         let mut open = Vec::new(alloc);
         for asked in self.asked.as_slice() {
-            match self.server.standing(asked.ticket) {
+            let index = asked.index;
+            let term = asked.term;
+            match self.server.standing(Ticket { index, term }) {
                 None | Some(Standing::Open) => open.push(*asked)?,
                 standing => {
-                    let text = placed_text(alloc, standing_word(standing), asked.ticket)?;
+                    let word = standing_word(standing);
+                    let text = placed_text(alloc, word, index.get(), term.get())?;
                     put_answer(alloc, asked.id, text.as_slice(), answers)?;
                 }
             }
@@ -313,8 +315,8 @@ impl ServerNode {
         if let Some((id, line)) = read_line(item) {
             return self.take_line(alloc, id, line, item, change, outbox, answers);
         }
-        if let Some((id, ticket)) = read_question(item) {
-            return self.answer(alloc, id, ticket, item, answers);
+        if let Some((id, index, term)) = read_question(item) {
+            return self.answer(alloc, id, index, term, item, answers);
         }
         match read_status(item) {
             Some(id) => self.show(alloc, id, item, answers),

@@ -25,14 +25,14 @@ use workers::ServerWorkers;
 const WORKER_STEPS: usize = 8;
 
 /// The input by which what is due is done; none for a Take where no leader is known.
-pub fn input_due(leader: Option<ServerId>, due: Due) -> Option<ServerInput>
-    ensures { option_map handing result ≡ input_due leader due }
+pub fn input_due(leader: &Option<ServerId>, due: Due) -> Option<ServerInput>
+    ensures { option_map handing result ≡ input_due leader.now due }
 {
     match due {
         Due::Timeout => Some(ServerInput::Timeout),
         Due::Compact => Some(ServerInput::Compact),
         Due::Take => match leader {
-            Some(to) => Some(ServerInput::Take(to)),
+            Some(to) => Some(ServerInput::Take(*to)),
             None => None,
         },
         Due::PlanTurn => Some(ServerInput::PlanTurn),
@@ -49,12 +49,12 @@ pub fn input_due(leader: Option<ServerId>, due: Due) -> Option<ServerInput>
 pub fn do_due(
     alloc: Global,
     server: &mut Server,
-    leader: Option<ServerId>,
+    leader: &Option<ServerId>,
     due: &[Due],
     change: &mut LogDelta,
     outbox: &mut Outbox,
 ) -> Result<(), NoMemory>
-    ensures all { OnOk result (HandsAll server.old outbox.old (filter_map (input_due leader) due.now)
+    ensures all { OnOk result (HandsAll server.old outbox.old (filter_map (input_due leader.now) due.now)
         server.new outbox.new) }
     ensures change { OnOk result ((first : Stored State Command) →
         IsDelta change.old first (stored_part server.old.raft) →
