@@ -112,10 +112,24 @@ fn tell_fault<E: Write>(
         (help_at at_terminal (map (λ w. w.now) words.now) fault.now)) }
 {
     write!(err, "{fault}")?;
-    if at_terminal {
-        tell_help(fault, words, err)?;
-    }
+    tell_help_at(at_terminal, fault, words, err)?;
     err.flush()
+}
+
+// Tells at a terminal what helps to mend the file, and else nothing.
+fn tell_help_at<E: Write>(
+    at_terminal: bool,
+    fault: &Fault<'_>,
+    words: &[&str],
+    err: &mut E,
+) -> io::Result<()>
+    ensures { OnOk result (Appends (E.contents err.old) (E.contents err.new)
+        (help_at at_terminal (map (λ w. w.now) words.now) fault.now)) }
+{
+    if at_terminal {
+        return tell_help(fault, words, err);
+    }
+    Ok(())
 }
 
 // Tells what helps to mend a file that is at fault, if it is one.
