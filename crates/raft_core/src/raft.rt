@@ -8,7 +8,7 @@ mod storing;
 mod votes;
 
 ghost use Rattle.std.specs.Prelude.{◌≡◌, ◌≤◌, true, false, is_some, None, length, take, replicate, OnOk, OnErr, IfOk, IfErr, IfSome, MatchBool, MatchOption};
-ghost use Rattle.raft_model.specs.Logs.{state_after};
+ghost use Rattle.raft_model.specs.Logs.{last_term, state_after};
 ghost use Rattle.raft_model.specs.Rafts.{Raft as AnyRaft, is_up, is_leader, met, crashed, restarted};
 ghost use Rattle.raft_core.specs.Inputs.{handed};
 ghost use Rattle.raft_core.specs.Steps.{Represents, Stores, Takes, role_of, IsGroupMember};
@@ -253,6 +253,16 @@ impl<M: Machine> Raft<M> {
         self.log.last()
     }
 
+    /// The term of the last entry of its log, also while it is down and where its snapshot covers
+    /// that entry; 0 where there is none.
+    pub fn last_term(&self) -> Term
+        ensures value { (s : AnyRaft M.Command) → Represents M.meaning self.now s →
+            result ≡ last_term s.log }
+        ensures shown { result ≡ last_term self.now.server.log }
+    {
+        self.log.last_term()
+    }
+
     /// The term of the entry at an index, also while it is down; none where its snapshot covers that
     /// entry, and where there is none.
     pub fn term_at(&self, index: Index) -> Option<Term>
@@ -402,8 +412,9 @@ impl<M: Machine> Raft<M> {
         Ok(())
     }
 
-    /// What every value shows of its base.
-    fn shown(&self)
+    /// What its snapshot covers is committed, and it shows no entry of that: so much is known of
+    /// each server.
+    pub fn shown(&self)
         ensures { IsShown self.now.base self.now.server }
     {
         let _ = self.log.covered();

@@ -23,7 +23,7 @@ pub use laws::{
 };
 pub use log::Log;
 pub use merge::adopt;
-pub use project::{brought_on, projection};
+pub use project::{bring_on, projection};
 pub use reading::{Front, read_change, read_stable, take_change};
 pub use snapshot::Snapshot;
 pub use stable::Stable;

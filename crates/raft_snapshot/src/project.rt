@@ -1,6 +1,6 @@
 //! A machine after a whole log, beside the one after its committed entries.
 
-ghost use Rattle.std.specs.Prelude.{◌≡◌, ◌-◌, ◌<◌, ◌≤◌, length, take, IfOk, IfSome};
+ghost use Rattle.std.specs.Prelude.{◌≡◌, ◌-◌, ◌<◌, ◌≤◌, length, take, None, IfOk, IfSome};
 ghost use Rattle.raft_snapshot.specs.Bases.{state_from};
 
 use crate::apply::apply_range;
@@ -21,18 +21,29 @@ pub fn projection<M: Machine>(machine: &M, commit: u64, log: &Log<M>) -> Result<
     Ok(ahead)
 }
 
-/// A second machine, brought on by the last entry of the log; none where there was none, or where
-/// it finds no memory.
-pub fn brought_on<M: Machine>(ahead: Option<M>, log: &Log<M>) -> Option<M>
-    requires some { log.now.base.index < length log.now.entries }
-    requires state { IfSome ahead (λ old. old ≡ state_from M.meaning log.now.base
-        (take (length log.now.entries - 1) log.now.entries)) }
-    ensures { IfSome result (λ new. new ≡ state_from M.meaning log.now.base log.now.entries) }
+/// Lets go of a machine. It is large: so this stands apart from what each proposal goes through.
+#[cold]
+#[inline(never)]
+fn let_go<M: Machine>(ahead: &mut Option<M>)
+    ensures { ahead.new ≡ None }
 {
-    let mut ahead = ahead?;
+    *ahead = None;
+}
+
+/// A second machine, where there is one, is brought on by the last entry of the log; it is let go
+/// of where it finds no memory.
+pub fn bring_on<M: Machine>(ahead: &mut Option<M>, log: &Log<M>)
+    requires some { log.now.base.index < length log.now.entries }
+    requires state { IfSome ahead.old (λ old. old ≡ state_from M.meaning log.now.base
+        (take (length log.now.entries - 1) log.now.entries)) }
+    ensures { IfSome ahead.new (λ new. new ≡ state_from M.meaning log.now.base log.now.entries) }
+{
     let last = log.last().get();
-    match apply_range(&mut ahead, log, last - 1, last) {
-        Ok(()) => Some(ahead),
-        Err(_) => None,
+    let lacks = match ahead {
+        Some(machine) => apply_range(machine, log, last - 1, last).is_err(),
+        None => false,
+    };
+    if lacks {
+        let_go(ahead);
     }
 }

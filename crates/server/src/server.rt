@@ -89,6 +89,13 @@ impl Server {
         self.raft.me()
     }
 
+    /// Its part of the log.
+    pub fn raft(&self) -> &Raft<Cluster>
+        ensures { result.now ≡ self.now.raft }
+    {
+        &self.raft
+    }
+
     /// What it is doing in the group, while it is up.
     pub fn role(&self) -> Option<Role>
         ensures value { (s : AnyServer) → IsServer self.now s → result ≡ role_of s.raft.mode }

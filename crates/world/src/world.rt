@@ -225,6 +225,15 @@ impl<M: Machine> RaftWorld<M> {
         let _ = &self.servers;
     }
 
+    /// How many servers there are: 3 or 5.
+    pub fn size(&self) -> usize
+        ensures value { result ≡ length self.now.servers }
+        ensures group { IsGroup result }
+    {
+        self.group_size();
+        self.servers.len()
+    }
+
     /// No two servers ever led one term, at no two moments of the run that led here. (Raft, Figure
     /// 3, election safety.)
     pub fn one_leader(&self)

@@ -5,7 +5,7 @@ ghost use Rattle.raft_snapshot.specs.Bases.{state_from};
 
 use crate::tests::states::numbers;
 use machine::{Amount, Coded, Entry, Machine, Tally, TallyCommand};
-use raft_snapshot::{Log, Snapshot, Stable, adopt, apply_range, brought_on, projection};
+use raft_snapshot::{Log, Snapshot, Stable, adopt, apply_range, bring_on, projection};
 use rows::{Index, ServerId, Term, Version};
 use std::alloc::Global;
 
@@ -439,7 +439,9 @@ fn brings(log: &Log<Tally>, sum: usize) -> bool {
     if last <= log.covered().get() {
         return false;
     }
-    match brought_on(state_at(log, last - 1), log) {
+    let mut ahead = state_at(log, last - 1);
+    bring_on(&mut ahead, log);
+    match ahead {
         Some(state) => has(&state, last, sum),
         None => false,
     }

@@ -51,7 +51,7 @@ impl<M: Machine> Raft<M> {
             LogBody::VoteReply(reply) => self.vote_reply(from, &reply),
             LogBody::Append(append) => self.append(from, append, outbox),
             LogBody::AppendReply(reply) => self.append_reply(from, &reply, watch),
-            LogBody::Install(install) => self.install(from, Box::into_inner(install), outbox),
+            LogBody::Install(install) => self.install(from, install, outbox),
             LogBody::InstallReply(reply) => {
                 // It counts as an ok.
                 let reply = AppendReply {

@@ -17,7 +17,7 @@ use super::Raft;
 use crate::no_projection::NoProjection;
 use crate::ticket::Ticket;
 use machine::{Coded, Entry, Machine};
-use raft_snapshot::{brought_on, projection};
+use raft_snapshot::{bring_on, projection};
 use rows::{Index, Leader, NoMemory, Refusal};
 
 impl<M: Machine> Raft<M> {
@@ -35,7 +35,9 @@ impl<M: Machine> Raft<M> {
         self.ahead.is_some()
     }
 
-    /// A leader's machine after its whole log is made where it holds none.
+    /// A leader's machine after its whole log is made where it holds none. A machine is large: so
+    /// this stands apart from what each proposal goes through.
+    #[inline(never)]
     fn make_ahead(&mut self) -> Result<(), NoMemory>
         requires { is_leader self.old.server.mode ≡ true }
         ensures same { SameRaft self.old self.new }
@@ -131,8 +133,7 @@ impl<M: Machine> Raft<M> {
             term: self.term,
             command: Coded::new(command),
         })?;
-        let ahead = self.ahead.take();
-        self.ahead = brought_on(ahead, &self.log);
+        bring_on(&mut self.ahead, &self.log);
         Ok(Ticket {
             index: self.log.last(),
             term,

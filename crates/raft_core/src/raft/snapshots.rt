@@ -89,11 +89,12 @@ impl<M: Machine> Raft<M> {
         self.take_over(from, head, state)
     }
 
-    /// A snapshot comes.
+    /// A snapshot comes. It is large: so this stands apart from what other messages go through.
+    #[inline(never)]
     pub(super) fn install(
         &mut self,
         from: ServerId,
-        message: Install<M>,
+        message: Box<Install<M>>,
         outbox: &mut Frames,
     ) -> Result<(), NoMemory>
         requires up { is_up self.old.server.mode ≡ true }
@@ -107,7 +108,7 @@ impl<M: Machine> Raft<M> {
         ensures led { OnOk result (is_leader self.new.server.mode ≡ true → self.new ≡ self.old) }
         ensures lost { OnErr result (LackedMemory self.old self.new outbox.old outbox.new) }
     {
-        let (head, state) = message.into_parts();
+        let (head, state) = Box::into_inner(message).into_parts();
         let (term, its_term) = (self.term.get(), head.term.get());
         if its_term < term {
             let reply = InstallReply {

@@ -27,10 +27,10 @@ returns-in_err-append-clause-unhidden g c =
     let is : c.from_residual-in_err-append.result ≡ Err refusals.NoMemory = search rules in
     rw is (hides_each g.M.Machine.meaning old c.shown.ensures c.args.command refusals.NoMemory (weighed.leads, lt-ltb (length old.server.log) MAX (omega (arith, weighed.index_left))))
 
-pub brought_on-requires-clause-state : goal.brought_on-requires-clause-state
-brought_on-requires-clause-state g c =
+pub bring_on-requires-clause-state : goal.bring_on-requires-clause-state
+bring_on-requires-clause-state g c =
     let i = c.self.inside in
-    rw c.take-ahead.ensures.value (second_behind g.M.Machine.meaning i.log.base i.log.entries _ i.role i.machine i.ahead c.append.new.self.base c.append.new.self.entries c.append.ensures.base c.in_ok-append.ensures.ok c.self.invariant.second)
+    second_behind g.M.Machine.meaning i.log.base i.log.entries _ i.role i.machine i.ahead c.append.new.self.base c.append.new.self.entries c.append.ensures.base c.in_ok-append.ensures.ok c.self.invariant.second
 
 pub invariant_of-self-2 : goal.invariant_of-self-2
 invariant_of-self-2 g c =
@@ -40,9 +40,9 @@ invariant_of-self-2 g c =
     let entry : Entry g.row.M-Command.Denot = record { term = i.term; command = c.new.result } in
     let leads = ap (λ (x : RaftView g.row.M.Denot g.row.M-Command.Denot). is_leader x.server.mode) c.self.view_is ∙ ap (λ (s : Raft g.row.M-Command.Denot). is_leader s.mode) weighed.same.server ∙ weighed.leads in
     let index_left = leader_room i.machine _ _ i.log.entries (i.log.entries ++ entry ∷ []) _ _ _ i.role i.votes.items i.next.items i.matched.items leads in
-    let ahead = rw (c.append.ensures.base, c.in_ok-append.ensures.ok) at c.brought_on.ensures in
-    let second = second_grown m i.log.base i.machine c.brought_on.result _ _ i.log.entries (i.log.entries ++ entry ∷ []) _ _ _ i.role i.votes.items i.next.items i.matched.items leads ahead in
-    rw (c.append.ensures.base, c.in_ok-append.ensures.ok) (grown m i.me i.size i.term i.log.base i.log.entries entry i.role i.role i.commit i.votes.items i.next.items i.matched.items i.machine i.ahead c.brought_on.result c.self.invariant c.self.invariant.elected index_left second)
+    let ahead = rw (c.append.ensures.base, c.in_ok-append.ensures.ok) at c.bring_on.ensures in
+    let second = second_grown m i.log.base i.machine c.bring_on.new.ahead _ _ i.log.entries (i.log.entries ++ entry ∷ []) _ _ _ i.role i.votes.items i.next.items i.matched.items leads ahead in
+    rw (c.append.ensures.base, c.in_ok-append.ensures.ok) (grown m i.me i.size i.term i.log.base i.log.entries entry i.role i.role i.commit i.votes.items i.next.items i.matched.items i.machine i.ahead c.bring_on.new.ahead c.self.invariant c.self.invariant.elected index_left second)
 
 pub returns-clause-taken : goal.returns-clause-taken
 returns-clause-taken g c =
