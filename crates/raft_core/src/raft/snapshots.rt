@@ -100,11 +100,11 @@ impl<M: Machine> Raft<M> {
         requires up { is_up self.old.server.mode ≡ true }
         requires other { from ≢ self.old.me }
         ensures taken { OnOk result (TurnTaken M.meaning
-            (base_after self.old.base self.old.server message.head.term (base_of message))
+            (base_after self.old.base self.old.server message.value.head.term (base_of message.value))
             self.old self.new outbox.old outbox.new
             (receives M.meaning.noop self.old.size self.old.me
-            (met message.head.term self.old.server) from message.head.term
-            (InstallBody (blank M.meaning message.head.index message.head.index_term)))) }
+            (met message.value.head.term self.old.server) from message.value.head.term
+            (InstallBody (blank M.meaning message.value.head.index message.value.head.index_term)))) }
         ensures led { OnOk result (is_leader self.new.server.mode ≡ true → self.new ≡ self.old) }
         ensures lost { OnErr result (LackedMemory self.old self.new outbox.old outbox.new) }
     {
