@@ -15,6 +15,7 @@ mod turns;
 
 ghost use Rattle.std.specs.Prelude.{◌≡◌, true, false, length, IfOk, IfErr, MatchOption};
 ghost use Rattle.std.specs.Arc.{arc_value};
+ghost use Rattle.raft_model.specs.Logs.{last_term};
 ghost use Rattle.raft_model.specs.Rafts.{is_up};
 ghost use Rattle.raft_core.specs.Steps.{role_of};
 ghost use Rattle.raft_core.specs.Refusals.{WhyNot};
@@ -118,6 +119,15 @@ impl Server {
         ensures shown { result ≡ length self.now.raft.server.log }
     {
         self.raft.last()
+    }
+
+    /// The term of the last entry of its log, also while it is down and where its snapshot covers
+    /// that entry; 0 where there is none.
+    pub fn last_term(&self) -> Term
+        ensures value { (s : AnyServer) → IsServer self.now s → result ≡ last_term s.raft.log }
+        ensures shown { result ≡ last_term self.now.raft.server.log }
+    {
+        self.raft.last_term()
     }
 
     /// How many entries are applied, while it is up: all that are committed.
