@@ -20,7 +20,7 @@ module _ {K A P I M : Type 0} (actors : Actors K A P I M) (same_name : (j k : K)
   passed_over j k (inr e) x y other = refl
 
   -- there is a group in which one process is another
-  becoming : (g : System actors) (k : K) (store : P) (life : ProcessLife actors) (left : List M) (told : List (ToldActor actors)) → (h : System actors) × Becomes actors g k store life left told h
+  pub becoming : (g : System actors) (k : K) (store : P) (life : ProcessLife actors) (left : List M) (told : List (ToldActor actors)) → (h : System actors) × Becomes actors g k store life left told h
   becoming g k store life left told =
       let p : Process actors = record { store = store; life = life } in (
         record { process = λ j. choose j k (same_name j k) p (g.process j); left = left; told = told },

@@ -72,7 +72,7 @@ module _ (n i : ℕ) (s : Server) where
   wakes_none inputs.Crash act live h = live
   wakes_none inputs.Restart act live h = live
 
-  asked_came : (ask : inputs.Ask) → LogEventFits (event_at i (Some ask)) → CameIn cluster_meaning [] i (inputs.input_of ask)
+  pub asked_came : (ask : inputs.Ask) → LogEventFits (event_at i (Some ask)) → CameIn cluster_meaning [] i (inputs.input_of ask)
   asked_came inputs.AskTimeout fits = tt
   asked_came inputs.AskBeat fits = tt
   asked_came (inputs.AskPropose command) fits = fits

@@ -1,16 +1,20 @@
 -- What is promised of the group holds of what its processes may have told.
 use Rattle.std.proofs.Common.{◌≡◌, ℕ, true, List, refl, arith}
 use Rattle.rows.specs.declared.node.NodeSpec.{NodeSpec}
+use Rattle.rows.specs.declared.command.Command.{Command}
+use Rattle.machine_model.specs.declared.entry.Entry.{Entry}
 use Rattle.raft_model.specs.Rafts.{Raft, Mode, Down, Follower, Candidate, Leader, is_leader}
 use Rattle.raft_model.specs.Worlds as raft_worlds
-use Rattle.raft_model.specs.Chains.{At}
+use Rattle.raft_model.specs.Chains.{At, Agree}
+use Rattle.raft_safety.proofs.Places.{get-within}
 use Rattle.group_model.specs.Servers.{Server}
 use Rattle.group_model.specs.Agents.{Agent}
 use Rattle.group_model.specs.Worlds.{raft_of}
 use Rattle.group_safety.specs.Claims.{ServerAt, AgentAt, logs}
 use Rattle.group_safety.proofs.Chained as chained
 use Rattle.group_safety.proofs.Placings.{placed}
-use Rattle.group_safety.proofs.DeskRuns.{server_log}
+use Rattle.group_safety.proofs.Backings.{backed}
+use Rattle.group_safety.proofs.DeskRuns.{desks, server_log}
 use Rattle.processes.specs.Processes.{System, ToldActor, Execution}
 use Rattle.processes.specs.Claims as claims
 use Rattle.processes.specs.Groups.{ServerOf, ClientOf, GroupServer, GroupClient, group_actors, group_abstraction, stopped_by}
@@ -18,6 +22,7 @@ use Rattle.processes.specs.Headline.{KeepsPromises, ServerTold, ClientTold}
 use Rattle.processes.proofs.Fine.{Fine}
 use Rattle.processes.proofs.Groups.{is_simulated, server_is, client_is}
 use Rattle.processes.proofs.Generic.{refines}
+use Rattle.processes.proofs.Staying.{AgreeOnList, applied_stays}
 
 -- a leader in a world of the log
 leads : {C : Type 0} (past : List (raft_worlds.World C)) (w : raft_worlds.World C) (k i : ℕ) (s : Raft C) (a : At past w k i s) (t : ℕ) → s.term ≡ t → (mode : Mode) → s.mode ≡ mode → is_leader mode ≡ true → raft_worlds.Leads a.world i t
@@ -31,21 +36,26 @@ module _ (n : ℕ) (nodes : List NodeSpec) (before : List (System (group_actors 
   W = refines (group_actors n nodes) (group_abstraction n nodes) stopped_by Fine (is_simulated n nodes) before g c
 
   -- a server that was told was so
-  server_at : (k i : ℕ) (s : Server) → ServerTold n nodes g k i s → (l : ℕ) × ServerAt W.past W.world l i s
+  server_at : (k i : ℕ) (s : Server) → ServerTold n nodes before g k i s → (l : ℕ) × ServerAt W.past W.world l i s
   server_at k i s h =
       let t : ToldActor (group_actors n nodes) = record { who = ServerOf i; actor = GroupServer s } in
       let a = W.told k k t t (omega arith) h h in
       (a.first, record { world = a.first_at.world; world_is = a.first_at.world_is; here = server_is _ s a.first_at.here })
 
   -- and so was a client
-  client_told_at : (k i : ℕ) (x : Agent) → ClientTold n nodes g k i x → (l : ℕ) × AgentAt W.past W.world l i x
+  client_told_at : (k i : ℕ) (x : Agent) → ClientTold n nodes before g k i x → (l : ℕ) × AgentAt W.past W.world l i x
   client_told_at k i x h =
       let t : ToldActor (group_actors n nodes) = record { who = ClientOf i; actor = GroupClient x } in
       let a = W.told k k t t (omega arith) h h in
       (a.first, record { world = a.first_at.world; world_is = a.first_at.world_is; here = client_is _ x a.first_at.here })
 
-  pub keeps : KeepsPromises n nodes g
-  keeps =
+  agree_on : (list : List (Entry Command)) × ((k i : ℕ) (s : Server) → ServerTold n nodes before g k i s → Agree s.raft.commit s.raft.log list)
+  agree_on =
+      let one = chained.one_list n nodes W.events W.past W.world W.reach.0 in
+      (one.0, λ k i s h. let a = server_at k i s h in one.1.agrees a.0 i s.raft (server_log W.past W.world a.0 i s a.1))
+
+  keeps_if : AgreeOnList n nodes → KeepsPromises n nodes before g
+  keeps_if agree =
       let one = chained.one_list n nodes W.events W.past W.world W.reach.0 in
       record {
         list = one.0;
@@ -63,4 +73,15 @@ module _ (n : ℕ) (nodes : List NodeSpec) (before : List (System (group_actors 
             let a = client_told_at k i x h in
             let p = placed n nodes W.events W.past W.world W.reach.0 one.0 one.1 a.0 i x j id a.1 there in
             record { entry = p.entry; plan = p.plan; place = p.place; one = p.one; entry_is = p.entry_is; plan_is = p.plan_is; place_is = p.place_is; on = p.on };
+        refines = W;
+        one = one.1;
+        backed = λ p e plan there is.
+            let run = W.reach.0 in
+            backed n W.events W.past W.world (chained.shadow n nodes W.events W.past W.world run) one.0 p e plan there is
+            (chained.origin n nodes W.events W.past W.world run one.0 one.1 p (get-within one.0 p e there)) (desks n nodes W.events W.past W.world run);
+        stays = λ k l i s t le a b lives. applied_stays n nodes agree i before g c k l s t le a b lives;
       }
+
+module _ (n : ℕ) (nodes : List NodeSpec) (before : List (System (group_actors n nodes))) (g : System (group_actors n nodes)) (c : Execution (group_actors n nodes) before g) where
+  pub keeps : KeepsPromises n nodes before g
+  keeps = keeps_if n nodes before g c (λ past last run. agree_on n nodes past last run)

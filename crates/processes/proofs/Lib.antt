@@ -5,4 +5,6 @@ pub mod Batching
 pub mod Looping
 pub mod Logs
 pub mod Groups
+pub mod Lasting
+pub mod Staying
 pub mod Headline

@@ -32,7 +32,7 @@ pub fn processes_refine_the_group()
 
 /// What processes may have told keeps what is promised of the group.
 pub fn processes_keep_the_headline()
-    ensures { EachExecution (λ n nodes past g. KeepsPromises n nodes g) }
+    ensures { EachExecution (λ n nodes past g. KeepsPromises n nodes past g) }
 {}
 
 /// A batch of items is taken as a whole, cut or dropped: each is an execution.
