@@ -5,3 +5,5 @@ pub mod Serving
 pub mod Living
 pub mod Bounds
 pub mod Servers
+pub mod GroupSteps
+pub mod Groups

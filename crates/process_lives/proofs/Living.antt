@@ -15,10 +15,10 @@ use Rattle.journal.proofs.Leaving.{records_both}
 use Rattle.processes.specs.Processes.{Actors, ProcessLife, NotStarted, Killed, Process as AnyProcess, IsNotUp, ToldActor, told_by, up_with, System, new_system, Execution, begun}
 use Rattle.processes.specs.Claims.{OccursIn}
 use Rattle.process_lives.specs.Lives.{Code, Process, Running, Idle, Serves, Happening, Begins, Does, Ends, Past, HasDone, HadLeft, Journal, NoJournal, LeftBy, IsReadAs, IsWhole, StoreLeft, MayFind, IsCarried, Goes, begins, does, ends_at_once, ends, CameTo, IsUnderWay, Lived}
-use Rattle.process_lives.specs.Joined.{IsItemOf, IsOfTurn, Joined}
-use Rattle.process_lives.proofs.Scripts.{among_more, among_later, among_front, each_weaker, one_item, no_items, whole_alone, Script, scripted, script_ends}
+use Rattle.process_lives.specs.Joined.{IsOutput, IsOfTurn, Joined}
+use Rattle.process_lives.proofs.Scripts.{among_more, among_later, among_front, each_weaker, no_items, whole_alone, Script, scripted, script_ends}
 use Rattle.process_lives.proofs.Steps.{By, nothing_yet, start_up, save_all, die, renamed, choose, chosen, passed_over}
-use Rattle.process_lives.proofs.Turns.{Joins}
+use Rattle.process_lives.proofs.Turns.{sends_nothing, Joins}
 use Rattle.process_lives.proofs.Serving.{some_more, same_first, same_rest, Told, Come, Standing, GoesOn, Seen, IsFed, goes_more, advance}
 
 module _ {K V P A Q I M : Type 0} (c : Code K V P) (actors : Actors K A Q I M)
@@ -30,11 +30,11 @@ module _ {K V P A Q I M : Type 0} (c : Code K V P) (actors : Actors K A Q I M)
   Tells = List (ToldActor actors)
 
   -- it is to store the whole, and then to do what is in the script
-  record FirstAhead (first : V) (others : List IoEvent) : Type 0 where
+  record FirstAhead (k : K) (first : V) (others : List IoEvent) : Type 0 where
     payload : List ℕ
     later : List IoEvent
-    whole : c.replay.whole payload ≡ Some (c.part first)
-    script : Script c [] first later
+    whole : (c.replay k).whole payload ≡ Some (c.part first)
+    script : Script c k [] first later
     others_are : others ≡ JournalReplaced payload ∷ (later ++ InputEnded ∷ [])
 
   abbrev Goes_on : K → Left → Tells → List IoEvent → List IoEvent → AnyProcess actors → Type 0
@@ -51,7 +51,7 @@ module _ {K V P A Q I M : Type 0} (c : Code K V P) (actors : Actors K A Q I M)
     store : Option (List ℕ)
     finds : MayFind c k known store
     from : c.BeginsWith k store first
-    ahead : (others ≡ []) ⊎ FirstAhead first others
+    ahead : (others ≡ []) ⊎ FirstAhead k first others
     behind : Behind k left told known p
 
   -- a process of the code, with what it is to do, is one of the definitions
@@ -75,11 +75,11 @@ module _ {K V P A Q I M : Type 0} (c : Code K V P) (actors : Actors K A Q I M)
 
   -- ---- what is read of a store
 
-  read_whole : (file : List ℕ) (payloads : List (List ℕ)) (x y : P) → file ≡ flat_map wal_record.text payloads → AllByRecursion wal_record.Fits payloads → replayed c.replay payloads ≡ Some x
-      → IsReadAs c file y → x ≡ y
-  read_whole file payloads x y is fits stored r =
+  read_whole : (k : K) (file : List ℕ) (payloads : List (List ℕ)) (x y : P) → file ≡ flat_map wal_record.text payloads → AllByRecursion wal_record.Fits payloads → replayed (c.replay k) payloads ≡ Some x
+      → IsReadAs (c.replay k) file y → x ≡ y
+  read_whole k file payloads x y is fits stored r =
       let same = (whole_read wal_record record_lawful record_filled payloads r.payloads r.tail fits (subst (λ z. IsJournal wal_record z r.payloads r.tail) is r.journal)).0 in
-      let both : Some x ≡ Some y = sym stored ∙ ap (replayed c.replay) (sym same) ∙ r.part_is in
+      let both : Some x ≡ Some y = sym stored ∙ ap (replayed (c.replay k)) (sym same) ∙ r.part_is in
       cc both
 
   -- ---- a process begins
@@ -119,10 +119,10 @@ module _ {K V P A Q I M : Type 0} (c : Code K V P) (actors : Actors K A Q I M)
 
     -- one whose last append was under way, and is read
     append_done : (left : Left) (told : Tells) (done others : List IoEvent) (payload : List ℕ) (p : AnyProcess actors) (file : List ℕ) (v : V) → ByNow p left told
-        → Goes_on k left told done (RecordAppended payload ∷ others) p → (r : IsReadAs c file (c.part v)) → r.payloads ≡ records_after [] done ++ payload ∷ [] → AtRest left told v
+        → Goes_on k left told done (RecordAppended payload ∷ others) p → (r : IsReadAs (c.replay k) file (c.part v)) → r.payloads ≡ records_after [] done ++ payload ∷ [] → AtRest left told v
     append_done left told done others payload p file v by s r is =
         let a = advance c actors Shows Keeps Carries law k g left told done others (RecordAppended payload) p by s tt in
-        let both : Some (c.part a.goes.now) ≡ Some (c.part v) = sym a.goes.standing.stored ∙ ap (replayed c.replay) (records_both [] done (RecordAppended payload ∷ []) ∙ sym is) ∙ r.part_is in
+        let both : Some (c.part a.goes.now) ≡ Some (c.part v) = sym a.goes.standing.stored ∙ ap (replayed (c.replay k)) (records_both [] done (RecordAppended payload ∷ []) ∙ sym is) ∙ r.part_is in
         let same : c.part a.goes.now ≡ c.part v = cc both in
         let stored = actors.stored a.goes.actor in
         record {
@@ -137,17 +137,17 @@ module _ {K V P A Q I M : Type 0} (c : Code K V P) (actors : Actors K A Q I M)
 
     torn_case : (left : Left) (told : Tells) (done others next : List IoEvent) (payload : List ℕ) (p : AnyProcess actors) (file : List ℕ) (v : V) → ByNow p left told
         → (s : Goes_on k left told done others p) → others ≡ RecordAppended payload ∷ next
-        → (r : IsReadAs c file (c.part v)) → (r.payloads ≡ records_after [] done) ⊎ (r.payloads ≡ records_after [] done ++ payload ∷ []) → AtRest left told v
+        → (r : IsReadAs (c.replay k) file (c.part v)) → (r.payloads ≡ records_after [] done) ⊎ (r.payloads ≡ records_after [] done ++ payload ∷ []) → AtRest left told v
     torn_case left told done others next payload p file v by s is r (inl same) =
-        let both : Some (c.part s.now) ≡ Some (c.part v) = sym s.standing.stored ∙ ap (replayed c.replay) (sym same) ∙ r.part_is in
+        let both : Some (c.part s.now) ≡ Some (c.part v) = sym s.standing.stored ∙ ap (replayed (c.replay k)) (sym same) ∙ r.part_is in
         went_on left told done others p v by s (cc both)
     torn_case left told done others next payload p file v by s is r (inr one) =
         append_done left told done next payload p file v by (subst (λ l. Goes_on k left told done l p) is s) r one
 
     crash_case : (left : Left) (told : Tells) (done others : List IoEvent) (p : AnyProcess actors) (file : List ℕ) (v : V) → ByNow p left told → Goes_on k left told done others p
-        → IsReadAs c file (c.part v) → AllByRecursion wal_record.Fits (records_after [] done) → CrashLeaves wal_record [] (done ++ others) done file → AtRest left told v
+        → IsReadAs (c.replay k) file (c.part v) → AllByRecursion wal_record.Fits (records_after [] done) → CrashLeaves wal_record [] (done ++ others) done file → AtRest left told v
     crash_case left told done others p file v by s r fits (between rest all at) =
-        went_on left told done others p v by s (read_whole file (records_after [] done) (c.part s.now) (c.part v) at fits s.standing.stored r)
+        went_on left told done others p v by s (read_whole k file (records_after [] done) (c.part s.now) (c.part v) at fits s.standing.stored r)
     crash_case left told done others p file v by s r fits (within payload next tail all fits_payload torn at) =
         torn_case left told done others next payload p file v by s (append_cancel_left done others (RecordAppended payload ∷ next) all) r
         (torn_read wal_record record_lawful record_filled (records_after [] done) r.payloads payload tail r.tail fits fits_payload torn (subst (λ z. IsJournal wal_record z r.payloads r.tail) at r.journal))
@@ -190,7 +190,7 @@ module _ {K V P A Q I M : Type 0} (c : Code K V P) (actors : Actors K A Q I M)
 
     -- the first thing that it does
     replaces : (left : Left) (told : Tells) (known : Journal) (store : Option (List ℕ)) (first : V) (others : List IoEvent) (event : IoEvent) → AtRest left told first → c.BeginsWith k store first
-        → FirstAhead first (event ∷ others) → Stepped left told (Does event) (Now known first (event ∷ [])) others
+        → FirstAhead k first (event ∷ others) → Stepped left told (Does event) (Now known first (event ∷ [])) others
     replaces left told known store first others event r from ahead =
         let saving = JournalReplaced ahead.payload in
         let behind = ahead.later ++ InputEnded ∷ [] in
@@ -207,7 +207,7 @@ module _ {K V P A Q I M : Type 0} (c : Code K V P) (actors : Actors K A Q I M)
         let saved : ByNow new l t = subst (λ z. ByNow new l z) (append-nil t) (save_all actors law.same_name k g up l t started r.stored a [] [] [] refl) in
         let standing : Standing c actors Shows Keeps Carries law k l t (saving ∷ []) first a [] = record {
           some = λ none. cc none;
-          stored = whole_alone c.replay (c.replay.whole ahead.payload) (c.part first) ahead.whole;
+          stored = whole_alone (c.replay k) ((c.replay k).whole ahead.payload) (c.part first) ahead.whole;
           shows = law.shows k store first r.stored from r.keeps;
           was_told = among_later told tells (told_by actors k a) (among_later r.more_told (told_by actors k a ∷ []) (told_by actors k a) (among_front (told_by actors k a) []));
           taken = [];
@@ -223,7 +223,7 @@ module _ {K V P A Q I M : Type 0} (c : Code K V P) (actors : Actors K A Q I M)
           back = [];
           later = ahead.later;
           tail = InputEnded ∷ [];
-          sends = tt;
+          sends = sends_nothing;
           of = tt;
           script = ahead.script;
           ends = inl refl;
@@ -276,7 +276,7 @@ module _ {K V P A Q I M : Type 0} (c : Code K V P) (actors : Actors K A Q I M)
     }
 
     starts : (left : Left) (told : Tells) (known : Journal) (store : Option (List ℕ)) (first : V) (before others : List IoEvent) (p : AnyProcess actors) → ByNow p left told
-        → MayFind c k known store → c.BeginsWith k store first → (others ≡ []) ⊎ FirstAhead first others
+        → MayFind c k known store → c.BeginsWith k store first → (others ≡ []) ⊎ FirstAhead k first others
         → IsLike k left told (record { journal = known; running = Idle }) before p → Stepped left told Begins (Now known first []) others
     starts left told known store first before others p by finds from ahead (rests idle b) =
         nothing_done left told Begins (Now known first []) others p by (waits first refl (record { store = store; finds = finds; from = from; ahead = ahead; behind = b })) tt
@@ -314,42 +314,39 @@ module _ {K V P A Q I M : Type 0} (c : Code K V P) (actors : Actors K A Q I M)
   plan_before (ends_at_once known first) others = []
   plan_before (ends known first done rest some whole) others = rest
 
-  abbrev Ahead : Running V → List IoEvent → Type 0
-  Ahead Idle others = ⊤
-  Ahead (Serves first done) others = ((done ≡ []) × (others ≡ [])) ⊎ IsWhole c first (done ++ others)
+  abbrev Ahead : K → Running V → List IoEvent → Type 0
+  Ahead k Idle others = ⊤
+  Ahead k (Serves first done) others = ((done ≡ []) × (others ≡ [])) ⊎ IsWhole c k first (done ++ others)
 
-  ahead_before : (k : K) (past : Past K) (q p : Process V) (x : Happening) (step : Goes c k past q x p) (others : List IoEvent) → Ahead p.running others → Ahead q.running (plan_before step others)
+  ahead_before : (k : K) (past : Past K) (q p : Process V) (x : Happening) (step : Goes c k past q x p) (others : List IoEvent) → Ahead k p.running others → Ahead k q.running (plan_before step others)
   ahead_before k past q p x (begins known store first finds from) others ahead = tt
   ahead_before k past q p x (does known first done event carried) others (inl none) = absurd (some_more done event none.0)
-  ahead_before k past q p x (does known first done event carried) others (inr whole) = inr (subst (IsWhole c first) (append_assoc done (event ∷ []) others) whole)
+  ahead_before k past q p x (does known first done event carried) others (inr whole) = inr (subst (IsWhole c k first) (append_assoc done (event ∷ []) others) whole)
   ahead_before k past q p x (ends_at_once known first) others ahead = inl (refl, refl)
   ahead_before k past q p x (ends known first done rest some whole) others ahead = inr whole
 
   -- what a process is to do that begins
-  first_ahead : (v : V) (others : List IoEvent) → Ahead (Serves v []) others → (others ≡ []) ⊎ FirstAhead v others
-  first_ahead v others (inl none) = inl none.1
-  first_ahead v others (inr w) =
+  first_ahead : (k : K) (v : V) (others : List IoEvent) → Ahead k (Serves v []) others → (others ≡ []) ⊎ FirstAhead k v others
+  first_ahead k v others (inl none) = inl none.1
+  first_ahead k v others (inr w) =
       let run = w.runs in
       inr (record {
         payload = run.payload;
         later = run.later;
         whole = run.whole;
-        script = subst (Script c [] v) (append-nil run.later) (scripted c [] v w.left w.last run.later run.serves [] (script_ends w.left w.last));
+        script = subst (Script c k [] v) (append-nil run.later) (scripted c k [] v w.left w.last run.later run.serves [] (script_ends w.left w.last));
         others_are = w.is ∙ ap (λ l. l ++ InputEnded ∷ []) run.is;
       })
 
   -- each frame that left is a message that left
   abbrev Leaves : Past K → Left → Type 0
-  Leaves past left = (bytes : List ℕ) → HadLeft past bytes → (x : M) × OccursIn left x × IsItemOf Carries bytes x
+  Leaves past left = (item : List ℕ) → c.IsFrame item → HadLeft past (sized item) → (x : M) × OccursIn left x × Carries item x
 
   come_of : (past : Past K) (left : Left) (k : K) → Leaves past left → (items : List (List ℕ)) → AllByRecursion (λ item. c.IsFrame item → HadLeft past (sized item)) items
       → AllByRecursion (Come c actors Shows Keeps Carries law k left) items
   come_of past left k leaves items carried =
       each_weaker (λ item. c.IsFrame item → HadLeft past (sized item)) (Come c actors Shows Keeps Carries law k left) items
-      (λ item had frame.
-      let a = leaves (sized item) (had frame) in
-      let same : a.2.0 ≡ item = one_item a.2.0 item (sym a.2.1) in
-      (a.0, a.1, subst (λ f. Carries f a.0) same a.2.2))
+      (λ item had frame. leaves item frame (had frame))
       carried
 
   fed_of : (past : Past K) (left : Left) (k : K) (done : List IoEvent) (event : IoEvent) → Leaves past left → IsCarried c past done event → IsFed c actors Shows Keeps Carries law k left done event
@@ -360,11 +357,11 @@ module _ {K V P A Q I M : Type 0} (c : Code K V P) (actors : Actors K A Q I M)
   fed_of past left k done (BytesSent bytes) leaves carried = tt
   fed_of past left k done (LineReported line) leaves carried = tt
 
-  one_step : (k : K) (past : Past K) (q p : Process V) (x : Happening) (step : Goes c k past q x p) (others : List IoEvent) → Ahead p.running others
+  one_step : (k : K) (past : Past K) (q p : Process V) (x : Happening) (step : Goes c k past q x p) (others : List IoEvent) → Ahead k p.running others
       → (g : System actors) (left : Left) (told : Tells) (was : AnyProcess actors) → Leaves past left → By actors law.same_name k g was left told → IsLike k left told q (plan_before step others) was
       → Stepped k g left told x p others
   one_step k past q p x (begins known store first finds from) others ahead g left told was leaves by like =
-      starts k g left told known store first [] others was by finds from (first_ahead first others ahead) like
+      starts k g left told known store first [] others was by finds from (first_ahead k first others ahead) like
   one_step k past q p x (does known first done event carried) others ahead g left told was leaves by like =
       acts k g left told known first done others event was by (fed_of past left k done event leaves carried) like
   one_step k past q p x (ends_at_once known first) others ahead g left told was leaves by like =
@@ -378,7 +375,7 @@ module _ {K V P A Q I M : Type 0} (c : Code K V P) (actors : Actors K A Q I M)
     execution : Execution actors before last
     like : (k : K) → IsLike k last.left last.told (now k) (plan k) (last.process k)
     leaves : Leaves past last.left
-    lines : (k : K) (line : List ℕ) → HasDone past k (LineReported line) → IsOfTurn c actors Shows Carries k (Told c actors Shows Keeps Carries law k last.told) (LineReported line)
+    outputs : (k : K) (event : IoEvent) → IsOutput event → HasDone past k event → IsOfTurn c actors Shows Carries k (Told c actors Shows Keeps Carries law k last.told) event
 
   nothing_left : {X : Type 0} (place : ℕ) (y : X) → slice_get [] place ≡ Some y → ⊥
   nothing_left place y at = let none : None ≡ Some y = at in cc none
@@ -389,14 +386,14 @@ module _ {K V P A Q I M : Type 0} (c : Code K V P) (actors : Actors K A Q I M)
     last = new_system actors;
     execution = begun;
     like = λ k. rests (ap (λ (p : Process V). p.running) (new k)) (fresh (ap (λ (p : Process V). p.journal) (new k)) refl);
-    leaves = λ bytes had. absurd (nothing_left had.1.0 (had.0, Does (BytesSent bytes)) had.1.1);
-    lines = λ k line had. absurd (nothing_left had.0 (k, Does (LineReported line)) had.1);
+    leaves = λ item frame had. absurd (nothing_left had.1.0 (had.0, Does (BytesSent (sized item))) had.1.1);
+    outputs = λ k event is had. absurd (nothing_left had.0 (k, Does event) had.1);
   }
 
   module _ (j : K) (x : Happening) (past : Past K) (now prev : K → Process V) (plan plan_then : K → List IoEvent)
       (own : Goes c j past (prev j) x (now j)) (others : (k : K) → k ≢ j → now k ≡ prev k)
       (plan_here : plan_then j ≡ plan_before own (plan j)) (plan_others : (k : K) → k ≢ j → plan_then k ≡ plan k)
-      (ahead : Ahead (now j).running (plan j)) (a : Along past prev plan_then) where
+      (ahead : Ahead j (now j).running (plan j)) (a : Along past prev plan_then) where
     s : Stepped j a.last a.last.left a.last.told x (now j) (plan j)
     s =
         one_step j past (prev j) (now j) x own (plan j) ahead a.last a.last.left a.last.told (a.last.process j) a.leaves
@@ -421,16 +418,16 @@ module _ {K V P A Q I M : Type 0} (c : Code K V P) (actors : Actors K A Q I M)
     was_here k event (suc place, at) = inr (place, at)
 
     leaves_in : Leaves ((j, x) ∷ past) (a.last.left ++ s.more_left)
-    leaves_in bytes (k, had) = elim (was_here k (BytesSent bytes) had) [
-      | inl e ↦ subst (λ y. SeenBy j a.last (a.last.left ++ s.more_left) (a.last.told ++ s.more_told) y) e.1 s.seen
-      | inr before ↦ let r = a.leaves bytes (k, before) in (r.0, among_more a.last.left s.more_left r.0 r.1, r.2)
+    leaves_in item frame (k, had) = elim (was_here k (BytesSent (sized item)) had) [
+      | inl e ↦ (subst (λ y. SeenBy j a.last (a.last.left ++ s.more_left) (a.last.told ++ s.more_told) y) e.1 s.seen).0 item refl frame
+      | inr before ↦ let r = a.leaves item frame (k, before) in (r.0, among_more a.last.left s.more_left r.0 r.1, r.2)
     ]
 
-    abbrev Line : Tells → K → List ℕ → Type 0
-    Line told k line = IsOfTurn c actors Shows Carries k (Told c actors Shows Keeps Carries law k told) (LineReported line)
+    abbrev Output : Tells → K → IoEvent → Type 0
+    Output told k event = IsOfTurn c actors Shows Carries k (Told c actors Shows Keeps Carries law k told) event
 
-    line_more : (k : K) (line : List ℕ) → Line a.last.told k line → Line (a.last.told ++ s.more_told) k line
-    line_more k line t = record {
+    output_more : (k : K) (event : IoEvent) → Output a.last.told k event → Output (a.last.told ++ s.more_told) k event
+    output_more k event t = record {
       item = t.item;
       old = t.old;
       new = t.new;
@@ -445,10 +442,21 @@ module _ {K V P A Q I M : Type 0} (c : Code K V P) (actors : Actors K A Q I M)
       such_after = among_more a.last.told s.more_told (told_by actors k t.after) t.such_after;
     }
 
-    lines_in : (k : K) (line : List ℕ) → HasDone ((j, x) ∷ past) k (LineReported line) → Line (a.last.told ++ s.more_told) k line
-    lines_in k line had = elim (was_here k (LineReported line) had) [
-      | inl e ↦ subst (λ i. Line (a.last.told ++ s.more_told) i line) e.0 (subst (λ y. SeenBy j a.last (a.last.left ++ s.more_left) (a.last.told ++ s.more_told) y) e.1 s.seen)
-      | inr before ↦ line_more k line (a.lines k line before)
+    seen_output : (left : Left) (told : Tells) (event : IoEvent) → IsOutput event → Seen c actors Shows Keeps Carries law j left told event → Output told j event
+    seen_output left told (BytesCame bytes) is seen = absurd is
+    seen_output left told InputEnded is seen = absurd is
+    seen_output left told (RecordAppended payload) is seen = absurd is
+    seen_output left told (JournalReplaced payload) is seen = absurd is
+    seen_output left told (BytesSent bytes) is seen = seen.1
+    seen_output left told (LineReported line) is seen = seen
+
+    outputs_in : (k : K) (event : IoEvent) → IsOutput event → HasDone ((j, x) ∷ past) k event → Output (a.last.told ++ s.more_told) k event
+    outputs_in k event is had = elim (was_here k event had) [
+      | inl e ↦
+          let left = a.last.left ++ s.more_left in
+          let told = a.last.told ++ s.more_told in
+          subst (λ i. Output told i event) e.0 (seen_output left told event is (subst (λ y. SeenBy j a.last left told y) e.1 s.seen))
+      | inr before ↦ output_more k event (a.outputs k event is before)
     ]
 
     one_longer : Along ((j, x) ∷ past) now plan
@@ -462,10 +470,10 @@ module _ {K V P A Q I M : Type 0} (c : Code K V P) (actors : Actors K A Q I M)
           like = λ k. subst (λ left. IsLike k left s.by.last.told (now k) (plan k) (s.by.last.process k)) l
               (subst (λ told. IsLike k (a.last.left ++ s.more_left) told (now k) (plan k) (s.by.last.process k)) t (like_in k));
           leaves = subst (λ left. Leaves ((j, x) ∷ past) left) l leaves_in;
-          lines = λ k line had. subst (λ told. Line told k line) t (lines_in k line had);
+          outputs = λ k event is had. subst (λ told. Output told k event) t (outputs_in k event is had);
         }
 
-  along : (past : Past K) (now : K → Process V) → ((k : K) → CameTo c k past (now k)) → (plan : K → List IoEvent) → ((k : K) → Ahead (now k).running (plan k)) → Along past now plan
+  along : (past : Past K) (now : K → Process V) → ((k : K) → CameTo c k past (now k)) → (plan : K → List IoEvent) → ((k : K) → Ahead k (now k).running (plan k)) → Along past now plan
   along [] now each plan ahead = first_alone now each plan
   along ((j, x) ∷ past) now each plan ahead =
       let prev : K → Process V = λ k. (each k).0 in
@@ -475,24 +483,24 @@ module _ {K V P A Q I M : Type 0} (c : Code K V P) (actors : Actors K A Q I M)
       let plan_then : K → List IoEvent = λ k. choose actors law.same_name k j (law.same_name k j) here (plan k) in
       let plan_here : plan_then j ≡ here = chosen actors law.same_name j j (law.same_name j j) here (plan j) refl in
       let plan_others : (k : K) → k ≢ j → plan_then k ≡ plan k = λ k other. passed_over actors law.same_name k j (law.same_name k j) here (plan k) other in
-      let ahead_then : (k : K) → Ahead (prev k).running (plan_then k) = λ k. elim (law.same_name k j) [
-        | inl e ↦ subst (λ i. Ahead (prev i).running (plan_then i)) (sym e) (subst (λ l. Ahead (prev j).running l) (sym plan_here) (ahead_before j past (prev j) (now j) x own (plan j) (ahead j)))
-        | inr other ↦ subst (λ l. Ahead (prev k).running l) (sym (plan_others k other)) (subst (λ (q : Process V). Ahead q.running (plan k)) (others k other) (ahead k))
+      let ahead_then : (k : K) → Ahead k (prev k).running (plan_then k) = λ k. elim (law.same_name k j) [
+        | inl e ↦ subst (λ i. Ahead i (prev i).running (plan_then i)) (sym e) (subst (λ l. Ahead j (prev j).running l) (sym plan_here) (ahead_before j past (prev j) (now j) x own (plan j) (ahead j)))
+        | inr other ↦ subst (λ l. Ahead k (prev k).running l) (sym (plan_others k other)) (subst (λ (q : Process V). Ahead k q.running (plan k)) (others k other) (ahead k))
       ] in
       one_longer j x past now prev plan plan_then own others plan_here plan_others (ahead j) (along past prev (λ k. (each k).1) plan_then ahead_then)
 
-  abbrev plan_of : (r : Running V) → IsUnderWay c r → List IoEvent
-  plan_of Idle way = []
-  plan_of (Serves first done) (inl none) = []
-  plan_of (Serves first done) (inr way) = way.0
+  abbrev plan_of : (k : K) (r : Running V) → IsUnderWay c k r → List IoEvent
+  plan_of k Idle way = []
+  plan_of k (Serves first done) (inl none) = []
+  plan_of k (Serves first done) (inr way) = way.0
 
-  ahead_of : (r : Running V) (way : IsUnderWay c r) → Ahead r (plan_of r way)
-  ahead_of Idle way = tt
-  ahead_of (Serves first done) (inl none) = inl (none, refl)
-  ahead_of (Serves first done) (inr way) = inr way.1
+  ahead_of : (k : K) (r : Running V) (way : IsUnderWay c k r) → Ahead k r (plan_of k r way)
+  ahead_of k Idle way = tt
+  ahead_of k (Serves first done) (inl none) = inl (none, refl)
+  ahead_of k (Serves first done) (inr way) = inr way.1
 
   -- what processes of the code did is what those of the definitions may do
   pub joined : (past : Past K) (now : K → Process V) → Lived c past now → Joined c actors Shows Carries past
   joined past now lived =
-      let a = along past now lived.each (λ k. plan_of (now k).running (lived.under_way k)) (λ k. ahead_of (now k).running (lived.under_way k)) in
-      record { before = a.before; last = a.last; execution = a.execution; left = a.leaves; lines = a.lines }
+      let a = along past now lived.each (λ k. plan_of k (now k).running (lived.under_way k)) (λ k. ahead_of k (now k).running (lived.under_way k)) in
+      record { before = a.before; last = a.last; execution = a.execution; left = a.leaves; outputs = a.outputs }

@@ -91,14 +91,14 @@ module _ {P : Type 0} (k : Replay P) where
 
 -- ---- what is still done
 
-module _ {K V P : Type 0} (c : Code K V P) where
+module _ {K V P : Type 0} (c : Code K V P) (k : K) where
   pub data Script : List ℕ → V → List IoEvent → Type 0 where
     script_ends : (pending : List ℕ) (now : V) → Script pending now []
     script_more : (pending : List ℕ) (now : V) (bytes : List ℕ) (events : List IoEvent) → Script (pending ++ bytes) now events → Script pending now (BytesCame bytes ∷ events)
     script_batch : (pending : List ℕ) (now new : V) (events later : List IoEvent) (items : List (List ℕ)) (rest : List ℕ) → pending ≡ flat_map sized items ++ rest
-        → IsDoneBatch c.replay c.part c.Turn items now new events → Script rest new later → Script pending now (events ++ later)
+        → IsDoneBatch (c.replay k) c.part c.Turn items now new events → Script rest new later → Script pending now (events ++ later)
 
-  pub scripted : (pending : List ℕ) (old : V) (left : List ℕ) (new : V) (events : List IoEvent) → TakesBatches c.replay c.part c.Turn pending old left new events
+  pub scripted : (pending : List ℕ) (old : V) (left : List ℕ) (new : V) (events : List IoEvent) → TakesBatches (c.replay k) c.part c.Turn pending old left new events
       → (later : List IoEvent) → Script left new later → Script pending old (events ++ later)
   scripted pending old left new events took_none later s = s
   scripted pending old left new all (more_came before now events bytes t) later s =

@@ -29,17 +29,17 @@ use Rattle.raft_core.specs.Steps.{Represents, Stores}
 use Rattle.raft_core.specs.StoredParts.{stored_part}
 use Rattle.journal.specs.Events.{IoEvent, BytesCame, InputEnded, RecordAppended, JournalReplaced, BytesSent, LineReported}
 use Rattle.processes.specs.Processes.{told_by}
-use Rattle.processes.specs.Claims.{OccursIn, RefinesWorld}
+use Rattle.processes.specs.Claims.{OccursIn, took_none, one_more, RefinesWorld}
 use Rattle.processes.specs.Logs.{Persistent, persistent_of, nothing_persistent, started, stopped, IsOffered, log_actors, log_abstraction}
 use Rattle.processes.proofs.Logs.{log_world}
 use Rattle.process_lives.specs.Lives.{Code, Past, Process, Lived}
 use Rattle.process_lives.specs.Joined.{Joined}
 use Rattle.process_lives.specs.Servers.{AreFrames, CoversAll, MayMean, TurnTakes, TurnIs, stays_so, takes_it, RunsServers, OneListOfLives}
 use Rattle.process_lives.proofs.Bounds.{InBounds, step_bounds}
-use Rattle.process_lives.proofs.Turns.{Sends, Turned, stays, takes, HadCome, Joins}
+use Rattle.process_lives.proofs.Turns.{Sends, sends_nothing, sends_message, reports_line, Turned, HadCome, Joins}
 use Rattle.process_lives.proofs.Living.{joined}
 
-module _ {S C : Type 0} (m : Meaning S C) (n : ℕ) (c : Code ℕ (RaftView S C) (Stored S C)) where
+module _ {S C : Type 0} (m : Meaning S C) (n : ℕ) where
   -- this server of the definitions is what the code's value stands for
   pub record ShowsServer (k : ℕ) (v : RaftView S C) (s : Raft C) : Type 0 where
     pub stands : Represents m v s
@@ -51,12 +51,9 @@ module _ {S C : Type 0} (m : Meaning S C) (n : ℕ) (c : Code ℕ (RaftView S C)
   abbrev pub KeepsServer : ℕ → Stored S C → Persistent C → Type 0
   KeepsServer k part q = Stores m part (started q)
 
-  abbrev pub CarriesMessage : List ℕ → Message C → Type 0
-  CarriesMessage bytes message = IsFrameOf m bytes message
-
   -- ---- what is stored
 
-  keeps_stored : (k : ℕ) (v : RaftView S C) (s : Raft C) → ShowsServer k v s → Stores m (stored_part v) (started (persistent_of s))
+  pub keeps_stored : (k : ℕ) (v : RaftView S C) (s : Raft C) → ShowsServer k v s → Stores m (stored_part v) (started (persistent_of s))
   keeps_stored k v s is = record {
     term = sym (ap (λ (x : Raft C). x.term) is.stands.is);
     vote = sym (ap (λ (x : Raft C). x.vote) is.stands.is);
@@ -64,7 +61,7 @@ module _ {S C : Type 0} (m : Meaning S C) (n : ℕ) (c : Code ℕ (RaftView S C)
     covered = is.based;
   }
 
-  shows_started : (k : ℕ) (v : RaftView S C) (q : Persistent C) → (v.me ≡ k) × (v.size ≡ n) → ((s : Raft C) → Stores m (stored_part v) s → Represents m v (restarted s)) → Stores m (stored_part v) (started q)
+  pub shows_started : (k : ℕ) (v : RaftView S C) (q : Persistent C) → (v.me ≡ k) × (v.size ≡ n) → ((s : Raft C) → Stores m (stored_part v) s → Represents m v (restarted s)) → Stores m (stored_part v) (started q)
       → ShowsServer k v (started q)
   shows_started k v q place starts stored =
       let log = stored.log in
@@ -78,10 +75,31 @@ module _ {S C : Type 0} (m : Meaning S C) (n : ℕ) (c : Code ℕ (RaftView S C)
         bounds = record { covered = omega arith; commit = omega (arith, stored.covered, log.fits.index, front, size) };
       }
 
+  pub covers_same : (view : RaftView S C) (t : Raft C) → Represents m view t → InBounds t → CoversAll view → view.base.index ≡ t.covered
+  covers_same view t r bounds all =
+      let same : t.covered ≡ view.server.covered = ap (λ (x : Raft C). x.covered) r.is in
+      let long = ap (λ (x : Raft C). length x.log) r.is in
+      let size = length-append r.covered (drop (length r.covered) view.server.log) in
+      let behind = length-drop (length r.covered) view.server.log in
+      elim all.most [
+        | inl most ↦ omega (arith, all.least, most, same)
+        | inr most ↦ omega (arith, all.least, most, same, long, size, behind, r.fits.index, bounds.covered, bounds.commit)
+      ]
+
+module _ {S C : Type 0} (m : Meaning S C) (n : ℕ) (c : Code ℕ (RaftView S C) (Stored S C)) where
+  abbrev Shows : ℕ → RaftView S C → Raft C → Type 0
+  Shows k v s = ShowsServer m n k v s
+
+  abbrev Keeps : ℕ → Stored S C → Persistent C → Type 0
+  Keeps k part q = KeepsServer m n k part q
+
+  abbrev pub CarriesMessage : List ℕ → Message C → Type 0
+  CarriesMessage bytes message = IsFrameOf m bytes message
+
   -- ---- what is sent
 
-  sends_frames : (outs : List IoEvent) (frames : List Frame) (messages : List (Message C)) → AreFrames outs frames → AllZip (FrameCarries m) frames messages → Sends CarriesMessage outs messages
-  sends_frames [] [] [] of carry = tt
+  sends_frames : (outs : List IoEvent) (frames : List Frame) (messages : List (Message C)) → AreFrames outs frames → AllZip (FrameCarries m) frames messages → Sends c.IsFrame CarriesMessage outs messages
+  sends_frames [] [] [] of carry = sends_nothing
   sends_frames [] [] (x ∷ messages) of carry = absurd carry
   sends_frames [] (frame ∷ frames) messages of carry = absurd of
   sends_frames (BytesCame bytes ∷ outs) frames messages of carry = absurd of
@@ -90,11 +108,8 @@ module _ {S C : Type 0} (m : Meaning S C) (n : ℕ) (c : Code ℕ (RaftView S C)
   sends_frames (JournalReplaced payload ∷ outs) frames messages of carry = absurd of
   sends_frames (BytesSent bytes ∷ outs) [] messages of carry = absurd of
   sends_frames (BytesSent bytes ∷ outs) (frame ∷ frames) [] of carry = absurd carry
-  sends_frames (BytesSent bytes ∷ outs) (frame ∷ frames) (x ∷ messages) of carry = ((frame.bytes, of.0, carry.0.bytes), sends_frames outs frames messages of.1 carry.1)
-  sends_frames (LineReported line ∷ outs) frames messages of carry = sends_frames outs frames messages of carry
-
-  sends_nothing : (outs : List IoEvent) → AreFrames outs [] → Sends CarriesMessage outs []
-  sends_nothing outs of = sends_frames outs [] [] of tt
+  sends_frames (BytesSent bytes ∷ outs) (frame ∷ frames) (x ∷ messages) of carry = sends_message bytes x (frame.bytes, of.0, carry.0.bytes) (sends_frames outs frames messages of.1 carry.1)
+  sends_frames (LineReported line ∷ outs) frames messages of carry = reports_line line (sends_frames outs frames messages of carry)
 
   -- ---- a frame is for its receiver
 
@@ -128,29 +143,23 @@ module _ {S C : Type 0} (m : Meaning S C) (n : ℕ) (c : Code ℕ (RaftView S C)
 
   -- ---- a turn
 
-  covers_same : (view : RaftView S C) (t : Raft C) → Represents m view t → InBounds t → CoversAll view → view.base.index ≡ t.covered
-  covers_same view t r bounds all =
-      let same : t.covered ≡ view.server.covered = ap (λ (x : Raft C). x.covered) r.is in
-      let long = ap (λ (x : Raft C). length x.log) r.is in
-      let size = length-append r.covered (drop (length r.covered) view.server.log) in
-      let behind = length-drop (length r.covered) view.server.log in
-      elim all.most [
-        | inl most ↦ omega (arith, all.least, most, same)
-        | inr most ↦ omega (arith, all.least, most, same, long, size, behind, r.fits.index, bounds.covered, bounds.commit)
-      ]
-
-  module _ (law : LawfulMachine m) (k : ℕ) (left : List (Message C)) (item : List ℕ) (old new : RaftView S C) (outs : List IoEvent) (a : Raft C) (is : ShowsServer k old a) (t : TurnTakes m n c item old new outs) where
-    taken_by : (input : Input C) → Reads m t.handed input → IsOffered m n left k input → Turned c (log_actors m n) ShowsServer KeepsServer CarriesMessage k left a new outs
+  module _ (law : LawfulMachine m) (k : ℕ) (left : List (Message C)) (item : List ℕ) (old new : RaftView S C) (outs : List IoEvent) (a : Raft C) (is : Shows k old a) (t : TurnTakes m n c item old new outs) where
+    taken_by : (input : Input C) → Reads m t.handed input → IsOffered m n left k input → Turned c (log_actors m n) Shows Keeps CarriesMessage k left a new outs
     taken_by input reads offered =
         let s = t.step a is.stands input reads in
         let stepped : step m n k a input ≡ Ok s.turn = subst (λ i. step m n i a input ≡ Ok s.turn) is.me (subst (λ z. step m z old.me a input ≡ Ok s.turn) is.size s.step) in
         let bounds = step_bounds m n k left a input s.turn (came_in left k input offered) stepped is.bounds in
         let covers = t.based (sym (ap (λ (x : Raft C). x.covered) is.stands.is) ∙ sym is.based) in
-        takes input s.turn.server s.turn.sent (offered, stepped)
-        (record { stands = s.represents; me = t.same.0 ∙ is.me; size = t.same.1 ∙ is.size; based = covers_same new s.turn.server s.represents bounds covers; bounds = bounds })
-        (sends_frames outs t.frames s.turn.sent t.outs_are (subst (λ l. AllZip (FrameCarries m) l s.turn.sent) (sym s.sent.added) s.sent.carry))
+        record {
+          actor = s.turn.server;
+          after = s.turn.server ∷ [];
+          sent = s.turn.sent;
+          takes = one_more input s.turn.server s.turn.sent took_none (offered, stepped);
+          shows = record { stands = s.represents; me = t.same.0 ∙ is.me; size = t.same.1 ∙ is.size; based = covers_same m n new s.turn.server s.represents bounds covers; bounds = bounds };
+          sends = sends_frames outs t.frames s.turn.sent t.outs_are (subst (λ l. AllZip (FrameCarries m) l s.turn.sent) (sym s.sent.added) s.sent.carry);
+        }
 
-    taken : HadCome c (log_actors m n) ShowsServer KeepsServer CarriesMessage left item → (h : Handed C) → t.handed ≡ h → MayMean m n c item h → Turned c (log_actors m n) ShowsServer KeepsServer CarriesMessage k left a new outs
+    taken : HadCome c (log_actors m n) Shows Keeps CarriesMessage left item → (h : Handed C) → t.handed ≡ h → MayMean m n c item h → Turned c (log_actors m n) Shows Keeps CarriesMessage k left a new outs
     taken come (Bytes bytes) e means =
         let x = come means.1 in
         let of : IsFrameOf m bytes x.0 = subst (λ b. IsFrameOf m b x.0) (sym means.0) x.2 in
@@ -165,7 +174,7 @@ module _ {S C : Type 0} (m : Meaning S C) (n : ℕ) (c : Code ℕ (RaftView S C)
     taken come (Own Crash) e means = absurd means
     taken come (Own Restart) e means = absurd means
 
-  shows_same : (k : ℕ) (old new : RaftView S C) (a : Raft C) → SameRaft old new → ShowsServer k old a → ShowsServer k new a
+  shows_same : (k : ℕ) (old new : RaftView S C) (a : Raft C) → SameRaft old new → Shows k old a → Shows k new a
   shows_same k old new a same is = record {
     stands = record {
       covered = is.stands.covered;
@@ -178,26 +187,33 @@ module _ {S C : Type 0} (m : Meaning S C) (n : ℕ) (c : Code ℕ (RaftView S C)
     bounds = is.bounds;
   }
 
-  one_turn : LawfulMachine m → (k : ℕ) (left : List (Message C)) (item : List ℕ) (old new : RaftView S C) (outs : List IoEvent) (a : Raft C) → ShowsServer k old a
-      → HadCome c (log_actors m n) ShowsServer KeepsServer CarriesMessage left item → TurnIs m n c item old new outs → Turned c (log_actors m n) ShowsServer KeepsServer CarriesMessage k left a new outs
-  one_turn law k left item old new outs a is come (stays_so same none) = stays (shows_same k old new a same is) (sends_nothing outs none)
+  one_turn : LawfulMachine m → (k : ℕ) (left : List (Message C)) (item : List ℕ) (old new : RaftView S C) (outs : List IoEvent) (a : Raft C) → Shows k old a
+      → HadCome c (log_actors m n) Shows Keeps CarriesMessage left item → TurnIs m n c item old new outs → Turned c (log_actors m n) Shows Keeps CarriesMessage k left a new outs
+  one_turn law k left item old new outs a is come (stays_so same none) = record {
+    actor = a;
+    after = [];
+    sent = [];
+    takes = took_none;
+    shows = shows_same k old new a same is;
+    sends = sends_frames outs [] [] none tt;
+  }
   one_turn law k left item old new outs a is come (takes_it t) = taken law k left item old new outs a is t come t.handed refl (t.means a is.stands)
 
   module _ (law : LawfulMachine m) (runs : RunsServers m n c) where
-    joins : Joins c (log_actors m n) ShowsServer KeepsServer CarriesMessage
+    joins : Joins c (log_actors m n) Shows Keeps CarriesMessage
     joins = record {
       same_name = λ j k. elim (eqb_tells j k) [ inl e ↦ inl e.1 | inr e ↦ inr e.1 ];
       is_one = runs.member;
       first = λ k v from. subst (λ p. Stores m p (started nothing_persistent)) (sym (runs.part_is v)) (runs.first k v from);
       reads = runs.reads;
-      shows = λ k store v q from keeps. shows_started k v q (runs.place k store v from) (runs.starts k store v from) (subst (λ p. Stores m p (started q)) (runs.part_is v) keeps);
-      keeps = λ k v a is. subst (λ p. Stores m p (started (persistent_of a))) (sym (runs.part_is v)) (keeps_stored k v a is);
+      shows = λ k store v q from keeps. shows_started m n k v q (runs.place k store v from) (runs.starts k store v from) (subst (λ p. Stores m p (started q)) (runs.part_is v) keeps);
+      keeps = λ k v a is. subst (λ p. Stores m p (started (persistent_of a))) (sym (runs.part_is v)) (keeps_stored m n k v a is);
       turns = λ k left item old new outs a is turn come. one_turn law k left item old new outs a is come (runs.turn item old new outs turn);
     }
 
     -- ---- the one list
 
-    module _ (past : Past ℕ) (j : Joined c (log_actors m n) ShowsServer CarriesMessage past) where
+    module _ (past : Past ℕ) (j : Joined c (log_actors m n) Shows CarriesMessage past) where
       W : RefinesWorld (log_actors m n) (log_abstraction m n) stopped j.before j.last
       W = log_world m n j.before j.last j.execution
 
@@ -221,7 +237,7 @@ module _ {S C : Type 0} (m : Meaning S C) (n : ℕ) (c : Code ℕ (RaftView S C)
       one_list = record {
         list = list;
         lines = λ k line had.
-            let r = j.lines k line had in
+            let r = j.outputs k (LineReported line) tt had in
             record {
               item = r.item;
               old = r.old;
@@ -243,4 +259,4 @@ module _ {S C : Type 0} (m : Meaning S C) (n : ℕ) (c : Code ℕ (RaftView S C)
     -- what such processes report is of one list
     pub lives_keep_one_list : (past : Past ℕ) (now : ℕ → Process (RaftView S C)) → Lived c past now → OneListOfLives m c.Turn past
     lives_keep_one_list past now lived =
-        one_list past (joined c (log_actors m n) ShowsServer KeepsServer CarriesMessage joins past now lived)
+        one_list past (joined c (log_actors m n) Shows Keeps CarriesMessage joins past now lived)

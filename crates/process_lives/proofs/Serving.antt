@@ -10,10 +10,10 @@ use Rattle.journal.proofs.Leaving.{records_both}
 use Rattle.processes.specs.Processes.{Actors, Process, ToldActor, told_by, up_with, System}
 use Rattle.processes.specs.Claims.{OccursIn}
 use Rattle.process_lives.specs.Lives.{Code, came}
-use Rattle.process_lives.specs.Joined.{IsItemOf, IsOfTurn}
-use Rattle.process_lives.proofs.Scripts.{among_more, among_later, among_front, each_later, each_weaker, items_both, came_both, whole_alone, one_change, Script, script_ends, script_more, script_batch}
+use Rattle.process_lives.specs.Joined.{IsOfTurn}
+use Rattle.process_lives.proofs.Scripts.{among_more, among_later, among_front, each_later, each_weaker, one_item, items_both, came_both, whole_alone, one_change, Script, script_ends, script_more, script_batch}
 use Rattle.process_lives.proofs.Steps.{By, save_all, send_one, renamed}
-use Rattle.process_lives.proofs.Turns.{Sends, Joins, HadCome, Known, AreOf, are_weaker, take_items}
+use Rattle.process_lives.proofs.Turns.{Sends, sends_nothing, sends_message, sends_other, reports_line, Joins, HadCome, Known, AreOf, are_weaker, take_items}
 
 -- what stands behind all that is read: that the input ended, or nothing
 abbrev pub IsTail : List IoEvent → Type 0
@@ -54,7 +54,7 @@ module _ {K V P A Q I M : Type 0} (c : Code K V P) (actors : Actors K A Q I M)
   -- and this has come and was not taken
   pub record Standing (left : List M) (told : List (ToldActor actors)) (done : List IoEvent) (now : V) (actor : A) (pending : List ℕ) : Type 0 where
     pub some : done ≢ []
-    pub stored : replayed c.replay (records_after [] done) ≡ Some (c.part now)
+    pub stored : replayed (c.replay k) (records_after [] done) ≡ Some (c.part now)
     pub shows : Shows k now actor
     pub was_told : Told told actor
     pub taken : List (List ℕ)
@@ -72,17 +72,21 @@ module _ {K V P A Q I M : Type 0} (c : Code K V P) (actors : Actors K A Q I M)
     pub back : List IoEvent
     pub later : List IoEvent
     pub tail : List IoEvent
-    pub sends : Sends Carries back ready
+    pub sends : Sends c.IsFrame Carries back ready
     pub of : Of told back
-    pub script : Script c pending now later
+    pub script : Script c k pending now later
     pub ends : IsTail tail
     pub others_are : others ≡ back ++ (later ++ tail)
     pub is : p ≡ up_with actors (actors.stored actor) actor [] [] ready
 
-  -- what an event is to those outside: a frame that left is a message that left, and a line is one
-  -- of a turn
+  -- where these bytes are a frame's, its message had left
+  abbrev pub IsLeft : List M → List ℕ → Type 0
+  IsLeft left bytes = (item : List ℕ) → bytes ≡ sized item → c.IsFrame item → (x : M) × OccursIn left x × Carries item x
+
+  -- what an event is to those outside: a frame that left is a message that left, and what is sent or
+  -- reported is of a turn
   abbrev pub Seen : List M → List (ToldActor actors) → IoEvent → Type 0
-  Seen left told (BytesSent bytes) = (x : M) × OccursIn left x × IsItemOf Carries bytes x
+  Seen left told (BytesSent bytes) = IsLeft left bytes × IsOfTurn c actors Shows Carries k (Told told) (BytesSent bytes)
   Seen left told (LineReported line) = IsOfTurn c actors Shows Carries k (Told told) (LineReported line)
   Seen left told (BytesCame bytes) = ⊤
   Seen left told InputEnded = ⊤
@@ -195,7 +199,7 @@ module _ {K V P A Q I M : Type 0} (c : Code K V P) (actors : Actors K A Q I M)
         → Standing left told done now actor pending → Standing left told (done ++ event ∷ []) now actor pending
     quiet left told done event now actor pending same none s = record {
       some = some_more done event;
-      stored = ap (replayed c.replay) same ∙ s.stored;
+      stored = ap (replayed (c.replay k)) same ∙ s.stored;
       shows = s.shows;
       was_told = s.was_told;
       taken = s.taken;
@@ -205,37 +209,40 @@ module _ {K V P A Q I M : Type 0} (c : Code K V P) (actors : Actors K A Q I M)
 
     -- what stands behind a batch's first output, and what is ready
     module _ (left : List M) (told : List (ToldActor actors)) (done : List IoEvent) (now : V) (actor : A) (pending : List ℕ) (standing : Standing left told done now actor pending)
-        (back later tail : List IoEvent) (script : Script c pending now later) (tails : IsTail tail) where
+        (later tail : List IoEvent) (script : Script c k pending now later) (tails : IsTail tail) where
       abbrev Ready : List M → Process actors
       Ready ready = up_with actors (actors.stored actor) actor [] [] ready
 
-      emit : (event : IoEvent) (ready : List M) → Sends Carries (event ∷ back) ready → Of told (event ∷ back) → ByNow (Ready ready) left told → Advanced g left told done (back ++ (later ++ tail)) event
-      emit (BytesCame bytes) ready sends of by = absurd sends
-      emit InputEnded ready sends of by = absurd sends
-      emit (RecordAppended payload) ready sends of by = absurd sends
-      emit (JournalReplaced payload) ready sends of by = absurd sends
-      emit (LineReported line) ready sends of by =
-          no_more left told done (back ++ (later ++ tail)) (LineReported line) (Ready ready) by
+      -- nothing left, or no message
+      nothing_left : (event : IoEvent) (back : List IoEvent) (ready : List M) → records_after [] (done ++ event ∷ []) ≡ records_after [] done → came (event ∷ []) ≡ [] → Sends c.IsFrame Carries back ready → Of told back
+          → ByNow (Ready ready) left told → Seen left told event → Advanced g left told done (back ++ (later ++ tail)) event
+      nothing_left event back ready same none sends of by seen =
+          no_more left told done (back ++ (later ++ tail)) event (Ready ready) by
           (record {
             now = now;
             actor = actor;
             pending = pending;
-            standing = quiet left told done (LineReported line) now actor pending (records_both [] done (LineReported line ∷ [])) refl standing;
+            standing = quiet left told done event now actor pending same none standing;
             ready = ready;
             back = back;
             later = later;
             tail = tail;
             sends = sends;
-            of = of.1;
+            of = of;
             script = script;
             ends = tails;
             others_are = refl;
             is = refl;
           })
-          of.0
-      emit (BytesSent bytes) [] sends of by = absurd sends
-      emit (BytesSent bytes) (x ∷ ready) sends of by =
-          let event = BytesSent bytes in
+          seen
+
+      emit : (event : IoEvent) (back : List IoEvent) (ready : List M) → Sends c.IsFrame Carries (event ∷ back) ready → Of told (event ∷ back) → ByNow (Ready ready) left told → Advanced g left told done (back ++ (later ++ tail)) event
+      emit event back ready (reports_line line sends) of by =
+          nothing_left (LineReported line) back ready (records_both [] done (LineReported line ∷ [])) refl sends of.1 by of.0
+      emit event back ready (sends_other bytes none sends) of by =
+          nothing_left (BytesSent bytes) back ready (records_both [] done (BytesSent bytes ∷ [])) refl sends of.1 by ((λ item is frame. absurd (none item is frame)), of.0)
+      emit event back all_ready (sends_message {xs = ready} bytes x carries sends) of by =
+          let sending = BytesSent bytes in
           let t = sym (append-nil told) in
           let now_left = left ++ x ∷ [] in
           record {
@@ -243,23 +250,26 @@ module _ {K V P A Q I M : Type 0} (c : Code K V P) (actors : Actors K A Q I M)
             more_left = x ∷ [];
             more_told = [];
             by = subst (λ y. ByNow (Ready ready) now_left y) t (send_one actors law.same_name k g (Ready (x ∷ ready)) left told by (actors.stored actor) actor [] [] ready x refl);
-            goes = goes_more left (x ∷ []) told [] (done ++ event ∷ []) (back ++ (later ++ tail)) (Ready ready) (record {
+            goes = goes_more left (x ∷ []) told [] (done ++ sending ∷ []) (back ++ (later ++ tail)) (Ready ready) (record {
               now = now;
               actor = actor;
               pending = pending;
-              standing = quiet left told done event now actor pending (records_both [] done (event ∷ [])) refl standing;
+              standing = quiet left told done sending now actor pending (records_both [] done (sending ∷ [])) refl standing;
               ready = ready;
               back = back;
               later = later;
               tail = tail;
-              sends = sends.1;
+              sends = sends;
               of = of.1;
               script = script;
               ends = tails;
               others_are = refl;
               is = refl;
             });
-            seen = (x, among_later left (x ∷ []) x (among_front x []), sends.0);
+            seen = (
+              (λ item is frame. (x, among_later left (x ∷ []) x (among_front x []), subst (λ f. Carries f x) (one_item carries.0 item (sym carries.1 ∙ is)) carries.2)),
+              subst (λ y. IsOfTurn c actors Shows Carries k (Told y) sending) t of.0,
+            );
           }
 
     -- ---- batches
@@ -291,7 +301,7 @@ module _ {K V P A Q I M : Type 0} (c : Code K V P) (actors : Actors K A Q I M)
             back = [];
             later = [];
             tail = [];
-            sends = tt;
+            sends = sends_nothing;
             of = tt;
             script = script_ends pending now;
             ends = inr refl;
@@ -302,7 +312,7 @@ module _ {K V P A Q I M : Type 0} (c : Code K V P) (actors : Actors K A Q I M)
 
       -- bytes come
       bytes_came : (told : List (ToldActor actors)) (now : V) (actor : A) (pending bytes : List ℕ) (later tail : List IoEvent) → Standing left told done now actor pending → ByNow (Bare actor) left told
-          → Script c (pending ++ bytes) now later → IsTail tail → BytesCame bytes ∷ (later ++ tail) ≡ event ∷ others → Next told
+          → Script c k (pending ++ bytes) now later → IsTail tail → BytesCame bytes ∷ (later ++ tail) ≡ event ∷ others → Next told
       bytes_came told now actor pending bytes later tail s by script tails e =
           let here = same_first (BytesCame bytes) event (later ++ tail) others e in
           let rest = same_rest (BytesCame bytes) event (later ++ tail) others e in
@@ -317,7 +327,7 @@ module _ {K V P A Q I M : Type 0} (c : Code K V P) (actors : Actors K A Q I M)
             pending = pending ++ bytes;
             standing = record {
               some = some_more done (BytesCame bytes);
-              stored = ap (replayed c.replay) (records_both [] done (BytesCame bytes ∷ [])) ∙ s.stored;
+              stored = ap (replayed (c.replay k)) (records_both [] done (BytesCame bytes ∷ [])) ∙ s.stored;
               shows = s.shows;
               was_told = s.was_told;
               taken = s.taken;
@@ -328,7 +338,7 @@ module _ {K V P A Q I M : Type 0} (c : Code K V P) (actors : Actors K A Q I M)
             back = [];
             later = later;
             tail = tail;
-            sends = tt;
+            sends = sends_nothing;
             of = tt;
             script = script;
             ends = tails;
@@ -345,11 +355,11 @@ module _ {K V P A Q I M : Type 0} (c : Code K V P) (actors : Actors K A Q I M)
         by : ByNow (up_with actors (actors.stored actor) actor [] [] sent) left (told ++ more_told)
         shows : Shows k new actor
         was_told : Told (told ++ more_told) actor
-        sends : Sends Carries outs sent
+        sends : Sends c.IsFrame Carries outs sent
         of : Of (told ++ more_told) outs
 
       took : (told : List (ToldActor actors)) (now new : V) (actor : A) (pending rest : List ℕ) (items : List (List ℕ)) (outs : List IoEvent) → Standing left told done now actor pending
-          → ByNow (Bare actor) left told → pending ≡ flat_map sized items ++ rest → BatchTurns c.replay c.part c.Turn items now new outs → TookBatch told new outs
+          → ByNow (Bare actor) left told → pending ≡ flat_map sized items ++ rest → BatchTurns (c.replay k) c.part c.Turn items now new outs → TookBatch told new outs
       took told now new actor pending rest items outs s by is turns =
           let t = take_items c actors Shows Keeps Carries law k g (actors.stored actor) left told items now new outs actor [] [] turns s.shows (inl s.was_told) (s.fed items rest is) by in
           let tells = map (told_by actors k) t.unsaved in
@@ -367,7 +377,7 @@ module _ {K V P A Q I M : Type 0} (c : Code K V P) (actors : Actors K A Q I M)
 
       -- where it stands then
       stands : (told first : List (ToldActor actors)) (ends_with : List IoEvent) (now new : V) (actor b : A) (pending rest : List ℕ) (items : List (List ℕ)) → Standing left first done now actor pending
-          → pending ≡ flat_map sized items ++ rest → ends_with ≢ [] → replayed c.replay (records_after [] ends_with) ≡ Some (c.part new) → came ends_with ≡ came done → Shows k new b → Told told b
+          → pending ≡ flat_map sized items ++ rest → ends_with ≢ [] → replayed (c.replay k) (records_after [] ends_with) ≡ Some (c.part new) → came ends_with ≡ came done → Shows k new b → Told told b
           → Standing left told ends_with new b rest
       stands told first ends_with now new actor b pending rest items s is some stored same shows was_told = record {
         some = some;
@@ -381,18 +391,17 @@ module _ {K V P A Q I M : Type 0} (c : Code K V P) (actors : Actors K A Q I M)
 
       -- a batch of which nothing is stored: the event is its first output, or there is none
       unstored : (told : List (ToldActor actors)) (new : V) (b : A) (rest : List ℕ) (outs later tail : List IoEvent) (sent : List M) → Standing left told done new b rest
-          → ByNow (up_with actors (actors.stored b) b [] [] sent) left told → Sends Carries outs sent → Of told outs → Script c rest new later → IsTail tail → outs ++ (later ++ tail) ≡ event ∷ others
+          → ByNow (up_with actors (actors.stored b) b [] [] sent) left told → Sends c.IsFrame Carries outs sent → Of told outs → Script c k rest new later → IsTail tail → outs ++ (later ++ tail) ≡ event ∷ others
           → (ByNow (Bare b) left told → later ++ tail ≡ event ∷ others → Next told) → Next told
-      unstored told new b rest [] later tail [] s by sends of script tails e again = again by e
-      unstored told new b rest [] later tail (x ∷ sent) s by sends of script tails e again = absurd sends
+      unstored told new b rest [] later tail sent s by sends_nothing of script tails e again = again by e
       unstored told new b rest (d ∷ outs) later tail sent s by sends of script tails e again =
           let behind = outs ++ (later ++ tail) in
           subst (λ x. Advanced g left told done others x) (same_first d event behind others e)
-          (subst (λ x. Advanced g left told done x d) (same_rest d event behind others e) (emit left told done new b rest s outs later tail script tails d sent sends of by))
+          (subst (λ x. Advanced g left told done x d) (same_rest d event behind others e) (emit left told done new b rest s later tail script tails d outs sent sends of by))
 
       -- a batch of which something is stored: the event is that
       stored_first : (told : List (ToldActor actors)) (new : V) (b : A) (rest : List ℕ) (saving : IoEvent) (outs later tail : List IoEvent) (sent : List M) → Standing left told (done ++ saving ∷ []) new b rest
-          → ByNow (up_with actors (actors.stored b) b [] [] sent) left told → Sends Carries outs sent → Of told outs → Script c rest new later → IsTail tail
+          → ByNow (up_with actors (actors.stored b) b [] [] sent) left told → Sends c.IsFrame Carries outs sent → Of told outs → Script c k rest new later → IsTail tail
           → saving ∷ (outs ++ (later ++ tail)) ≡ event ∷ others → Seen left told saving → Next told
       stored_first told new b rest saving outs later tail sent s by sends of script tails e seen =
           let behind = outs ++ (later ++ tail) in
@@ -423,7 +432,7 @@ module _ {K V P A Q I M : Type 0} (c : Code K V P) (actors : Actors K A Q I M)
 
       -- each case of what is stored
       one_batch : (told : List (ToldActor actors)) (now new : V) (actor : A) (pending rest : List ℕ) (items : List (List ℕ)) (outs store later tail : List IoEvent) → Standing left told done now actor pending
-          → pending ≡ flat_map sized items ++ rest → TookBatch told new outs → Script c rest new later → IsTail tail → SavesBatch c.replay c.part c.Turn now new store → store ++ (outs ++ (later ++ tail)) ≡ event ∷ others
+          → pending ≡ flat_map sized items ++ rest → TookBatch told new outs → Script c k rest new later → IsTail tail → SavesBatch (c.replay k) c.part c.Turn now new store → store ++ (outs ++ (later ++ tail)) ≡ event ∷ others
           → ((next_told : List (ToldActor actors)) (b : A) → Standing left next_told done new b rest → ByNow (Bare b) left next_told → later ++ tail ≡ event ∷ others → Next next_told) → Next told
       one_batch told now new actor pending rest items outs store later tail s is t script tails (saves_nothing same none) e again =
           let next_told = told ++ t.more_told in
@@ -434,20 +443,20 @@ module _ {K V P A Q I M : Type 0} (c : Code K V P) (actors : Actors K A Q I M)
       one_batch told now new actor pending rest items outs store later tail s is t script tails (saves_change payload leads one) e again =
           let next_told = told ++ t.more_told in
           let saving = RecordAppended payload in
-          let stored = ap (replayed c.replay) (records_both [] done (saving ∷ [])) ∙ one_change c.replay (records_after [] done) payload (c.part now) (c.part new) s.stored leads in
+          let stored = ap (replayed (c.replay k)) (records_both [] done (saving ∷ [])) ∙ one_change (c.replay k) (records_after [] done) payload (c.part now) (c.part new) s.stored leads in
           let standing = stands next_told told (done ++ saving ∷ []) now new actor t.actor pending rest items s is (some_more done saving) stored (came_both done (saving ∷ []) ∙ append-nil (came done)) t.shows t.was_told in
           told_before left told t.more_told done others event
           (stored_first next_told new t.actor rest saving outs later tail t.sent standing t.by t.sends t.of script tails (sym (ap (λ l. l ++ (outs ++ (later ++ tail))) one) ∙ e) tt)
       one_batch told now new actor pending rest items outs store later tail s is t script tails (saves_whole payload leads one) e again =
           let next_told = told ++ t.more_told in
           let saving = JournalReplaced payload in
-          let stored = ap (replayed c.replay) (records_both [] done (saving ∷ [])) ∙ whole_alone c.replay (c.replay.whole payload) (c.part new) leads in
+          let stored = ap (replayed (c.replay k)) (records_both [] done (saving ∷ [])) ∙ whole_alone (c.replay k) ((c.replay k).whole payload) (c.part new) leads in
           let standing = stands next_told told (done ++ saving ∷ []) now new actor t.actor pending rest items s is (some_more done saving) stored (came_both done (saving ∷ []) ∙ append-nil (came done)) t.shows t.was_told in
           told_before left told t.more_told done others event
           (stored_first next_told new t.actor rest saving outs later tail t.sent standing t.by t.sends t.of script tails (sym (ap (λ l. l ++ (outs ++ (later ++ tail))) one) ∙ e) tt)
 
       -- the script's front
-      scripted_step : (pending : List ℕ) (now : V) (later : List IoEvent) → Script c pending now later → (told : List (ToldActor actors)) (actor : A) (tail : List IoEvent) → Standing left told done now actor pending
+      scripted_step : (pending : List ℕ) (now : V) (later : List IoEvent) → Script c k pending now later → (told : List (ToldActor actors)) (actor : A) (tail : List IoEvent) → Standing left told done now actor pending
           → ByNow (Bare actor) left told → IsTail tail → later ++ tail ≡ event ∷ others → Next told
       scripted_step pending now later (script_ends at v) told actor tail s by tails e = at_end told now actor pending tail s by tails e
       scripted_step pending now later (script_more at v bytes events script) told actor tail s by tails e = bytes_came told now actor pending bytes events tail s by script tails e
@@ -461,12 +470,11 @@ module _ {K V P A Q I M : Type 0} (c : Code K V P) (actors : Actors K A Q I M)
         → IsFed left done event → Advanced g left told done others event
     advance left told done others event p by s fed =
         from s.back s.ready s.sends s.of (sym s.others_are) (renamed actors law.same_name k g p left told by (up_with actors (actors.stored s.actor) s.actor [] [] s.ready) s.is) where
-          from : (back : List IoEvent) (ready : List M) → Sends Carries back ready → Of told back → back ++ (s.later ++ s.tail) ≡ event ∷ others
+          from : (back : List IoEvent) (ready : List M) → Sends c.IsFrame Carries back ready → Of told back → back ++ (s.later ++ s.tail) ≡ event ∷ others
               → ByNow (up_with actors (actors.stored s.actor) s.actor [] [] ready) left told → Advanced g left told done others event
-          from [] [] sends of e now_by = scripted_step left event others done fed s.pending s.now s.later s.script told s.actor s.tail s.standing now_by s.ends e
-          from [] (x ∷ ready) sends of e now_by = absurd sends
+          from [] ready sends_nothing of e now_by = scripted_step left event others done fed s.pending s.now s.later s.script told s.actor s.tail s.standing now_by s.ends e
           from (d ∷ back) ready sends of e now_by =
               let behind = back ++ (s.later ++ s.tail) in
               subst (λ x. Advanced g left told done others x) (same_first d event behind others e)
               (subst (λ x. Advanced g left told done x d) (same_rest d event behind others e)
-              (emit left told done s.now s.actor s.pending s.standing back s.later s.tail s.script s.ends d ready sends of now_by))
+              (emit left told done s.now s.actor s.pending s.standing s.later s.tail s.script s.ends d back ready sends of now_by))

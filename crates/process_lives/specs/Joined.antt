@@ -1,7 +1,8 @@
 -- What such processes have to do with those of `processes`.
-use Rattle.std.specs.Prelude.{◌≡◌, List, ℕ}
+use Rattle.std.specs.Prelude.{◌≡◌, ⊤, List, ℕ}
 use Rattle.wire.specs.Frames.{sized}
-use Rattle.journal.specs.Events.{IoEvent, LineReported}
+use Rattle.journal.specs.Events.{IoEvent, BytesCame, InputEnded, RecordAppended, JournalReplaced}
+use Rattle.journal.specs.Events.{BytesSent, LineReported}
 use Rattle.processes.specs.Processes.{Actors, System, Execution, told_by}
 use Rattle.processes.specs.Claims.{OccursIn}
 use Rattle.process_lives.specs.Lives.{Code, Past, HasDone, HadLeft}
@@ -10,6 +11,15 @@ use Rattle.process_lives.specs.Lives.{Code, Past, HasDone, HadLeft}
 abbrev pub IsItemOf : {M : Type 0} → (List ℕ → M → Type 0) → List ℕ → M → Type 0
 IsItemOf Carries bytes message =
     (frame : List ℕ) × (bytes ≡ sized frame) × Carries frame message
+
+-- it goes to the output or the standard error
+abbrev pub IsOutput : IoEvent → Type 0
+IsOutput (BytesCame bytes) = ⊥
+IsOutput InputEnded = ⊥
+IsOutput (RecordAppended payload) = ⊥
+IsOutput (JournalReplaced payload) = ⊥
+IsOutput (BytesSent bytes) = ⊤
+IsOutput (LineReported line) = ⊤
 
 module _ {K V P A Q I M : Type 0} (c : Code K V P) (actors : Actors K A Q I M)
     (Shows : K → V → A → Type 0) (Carries : List ℕ → M → Type 0) where
@@ -29,13 +39,12 @@ module _ {K V P A Q I M : Type 0} (c : Code K V P) (actors : Actors K A Q I M)
     pub such_after : IsSuch after
 
   -- There is an execution of the definitions' processes, in which each frame that left one is a
-  -- message that left; and each line that was reported, and each frame, is of a turn of an actor
-  -- that was told.
+  -- message that left; and all that one sent or reported is of a turn of an actor that was told.
   pub record Joined (past : Past K) : Type 0 where
     pub before : List (System actors)
     pub last : System actors
     pub execution : Execution actors before last
-    pub left : (bytes : List ℕ) → HadLeft past bytes →
-        (x : M) × OccursIn last.left x × IsItemOf Carries bytes x
-    pub lines : (k : K) (line : List ℕ) → HasDone past k (LineReported line) →
-        IsOfTurn k (λ a. OccursIn last.told (told_by actors k a)) (LineReported line)
+    pub left : (item : List ℕ) → c.IsFrame item → HadLeft past (sized item) →
+        (x : M) × OccursIn last.left x × Carries item x
+    pub outputs : (k : K) (event : IoEvent) → IsOutput event → HasDone past k event →
+        IsOfTurn k (λ a. OccursIn last.told (told_by actors k a)) event

@@ -1,3 +1,4 @@
 pub mod Lives
 pub mod Joined
 pub mod Servers
+pub mod Groups

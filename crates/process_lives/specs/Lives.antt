@@ -18,11 +18,11 @@ pub data Happening : Type 0 where
   Does : (event : IoEvent) → Happening
   Ends : Happening
 
--- Code that is run as processes: how what an actor stores is kept, what it makes of an item, the
--- actor of the process of a name that begins where its journal has these bytes or none, that
--- journal's first line, and the items that are frames.
+-- Code that is run as processes: how what the actor of a name stores is kept, what it makes of an
+-- item, the actor of the process of a name that begins where its journal has these bytes or none,
+-- that journal's first line, and the items that are frames.
 pub record Code (K V P : Type 0) : Type 1 where
-  pub replay : Replay P
+  pub replay : K → Replay P
   pub part : V → P
   pub Turn : List ℕ → V → V → List IoEvent → Type 0
   pub BeginsWith : K → Option (List ℕ) → V → Type 0
@@ -66,20 +66,20 @@ HasDone past k event = (place : ℕ) × (slice_get past place ≡ Some (k, Does 
 abbrev pub HadLeft : {K : Type 0} → Past K → List ℕ → Type 0
 HadLeft {K = K} past bytes = (k : K) × HasDone past k (BytesSent bytes)
 
-module _ {K V P : Type 0} (c : Code K V P) where
-  -- these bytes, behind a journal's first line, are read as this
-  pub record IsReadAs (file : List ℕ) (part : P) : Type 0 where
-    pub payloads : List (List ℕ)
-    pub tail : List ℕ
-    pub journal : IsJournal wal_record file payloads tail
-    pub part_is : replayed c.replay payloads ≡ Some part
+-- these bytes, behind a journal's first line, are read as this
+pub record IsReadAs {P : Type 0} (replay : Replay P) (file : List ℕ) (part : P) : Type 0 where
+  pub payloads : List (List ℕ)
+  pub tail : List ℕ
+  pub journal : IsJournal wal_record file payloads tail
+  pub part_is : replayed replay payloads ≡ Some part
 
+module _ {K V P : Type 0} (c : Code K V P) where
   -- all that a process does that begins with this actor and is let alone, up to its input's end
-  pub record IsWhole (first : V) (all : List IoEvent) : Type 0 where
+  pub record IsWhole (k : K) (first : V) (all : List IoEvent) : Type 0 where
     pub left : List ℕ
     pub last : V
     pub events : List IoEvent
-    pub runs : ProcessRuns c.replay c.part c.Turn first left last events
+    pub runs : ProcessRuns (c.replay k) c.part c.Turn first left last events
     pub is : all ≡ events ++ InputEnded ∷ []
 
   -- What a process finds: behind the journal's first line what a kill leaves, where these were
@@ -125,7 +125,7 @@ module _ {K V P : Type 0} (c : Code K V P) where
         Goes k past (record { journal = journal; running = Serves first [] })
         Ends (record { journal = journal; running = Idle })
     ends : (journal : Journal) (first : V) (done others : List IoEvent) → done ≢ [] →
-        IsWhole first (done ++ others) →
+        IsWhole k first (done ++ others) →
         Goes k past (record { journal = journal; running = Serves first done })
         Ends (record { journal = LeftBy done others; running = Idle })
 
@@ -136,12 +136,12 @@ module _ {K V P : Type 0} (c : Code K V P) where
       × (((j ≢ k) × (p ≡ q)) ⊎ ((j ≡ k) × Goes k past q x p))
 
   -- what it did is the first of what it does if it is let alone
-  abbrev pub IsUnderWay : Running V → Type 0
-  IsUnderWay Idle = ⊤
-  IsUnderWay (Serves first done) =
-      (done ≡ []) ⊎ ((others : List IoEvent) × IsWhole first (done ++ others))
+  abbrev pub IsUnderWay : K → Running V → Type 0
+  IsUnderWay k Idle = ⊤
+  IsUnderWay k (Serves first done) =
+      (done ≡ []) ⊎ ((others : List IoEvent) × IsWhole k first (done ++ others))
 
   -- processes came to these
   pub record Lived (past : Past K) (now : K → Process V) : Type 0 where
     pub each : (k : K) → CameTo k past (now k)
-    pub under_way : (k : K) → IsUnderWay (now k).running
+    pub under_way : (k : K) → IsUnderWay k (now k).running

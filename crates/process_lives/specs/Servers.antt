@@ -47,7 +47,7 @@ abbrev pub server_code : {S C : Type 0} → Replay (Stored S C) →
     (ℕ → Option (List ℕ) → RaftView S C → Type 0) → (ℕ → List ℕ) → (List ℕ → Type 0) →
     Code ℕ (RaftView S C) (Stored S C)
 server_code replay Turn BeginsWith header IsFrame = record {
-  replay = replay;
+  replay = λ k. replay;
   part = stored_part;
   Turn = Turn;
   BeginsWith = BeginsWith;
@@ -97,7 +97,7 @@ module _ {S C : Type 0} (m : Meaning S C) (n : ℕ) (c : Code ℕ (RaftView S C)
     pub first : (k : ℕ) (v : RaftView S C) → c.BeginsWith k None v →
         Stores m (stored_part v) (started nothing_persistent)
     pub reads : (k : ℕ) (file : List ℕ) (v : RaftView S C) →
-        c.BeginsWith k (Some (c.header k ++ file)) v → IsReadAs c file (c.part v)
+        c.BeginsWith k (Some (c.header k ++ file)) v → IsReadAs (c.replay k) file (c.part v)
 
 module _ {S C : Type 0} (m : Meaning S C) where
   -- It was sent or reported by a turn of a server which, before the turn and after it, had committed

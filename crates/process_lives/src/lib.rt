@@ -4,4 +4,7 @@
 
 mod laws;
 
-pub use laws::{ServerProcess, lives_keep_one_list};
+pub use laws::{
+    GroupClientProcess, GroupServerProcess, ServerProcess, group_lives_keep_the_headline,
+    lives_keep_one_list,
+};
