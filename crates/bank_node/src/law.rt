@@ -53,9 +53,9 @@ pub fn processes_keep_one_book()
 /// process that began with it: the first of all that it does if it is let alone. And whatever such
 /// processes do, `processes_keep_one_book` says what their banks are.
 pub fn live<O: Outside>(alloc: Global, node: &mut Node<Bank>, outside: &mut O) -> Result<(), Stop>
-    ensures { (size : ℕ) (did done : List IoEvent) → O.happened outside.old ≡ Some did →
+    ensures { (size me : ℕ) (did done : List IoEvent) → O.happened outside.old ≡ Some did →
         O.happened outside.new ≡ Some (did ++ done) →
-        IsUnderWay (node_code bank_meaning bank_words bank_reason size) (Serves node.old done) }
+        IsUnderWay (node_code bank_meaning bank_words bank_reason size) me (Serves node.old done) }
 {
     processes_keep_one_book();
     serve(alloc, node, outside)

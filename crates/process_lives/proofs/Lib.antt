@@ -6,4 +6,5 @@ pub mod Living
 pub mod Bounds
 pub mod Servers
 pub mod GroupSteps
+pub mod Limits
 pub mod Groups

@@ -208,7 +208,7 @@ module _ {S C : Type 0} (m : Meaning S C) (n : ℕ) (c : Code ℕ (RaftView S C)
       reads = runs.reads;
       shows = λ k store v q from keeps. shows_started m n k v q (runs.place k store v from) (runs.starts k store v from) (subst (λ p. Stores m p (started q)) (runs.part_is v) keeps);
       keeps = λ k v a is. subst (λ p. Stores m p (started (persistent_of a))) (sym (runs.part_is v)) (keeps_stored m n k v a is);
-      turns = λ k left item old new outs a is turn come. one_turn law k left item old new outs a is come (runs.turn item old new outs turn);
+      turns = λ k left item old new outs a is reached turn come. one_turn law k left item old new outs a is come (runs.turn item old new outs turn);
     }
 
     -- ---- the one list

@@ -1,6 +1,8 @@
 -- Steps of one process, in an execution of all.
 use Rattle.std.proofs.Common.{◌≡◌, ◌≢◌, ◌∙◌, ◌⊎◌, inl, inr, List, [], ◌∷◌, ◌++◌, map, refl, sym, ap, subst}
 use Rattle.processes.specs.Processes.{Actors, ProcessLife, Killed, Up, Process, IsNotUp, ToldActor, told_by, up_with, System, SystemStep, Becomes, comes_up, takes_item, saves, message_leaves, dies, Execution, continued}
+use Rattle.processes.specs.Claims.{TakesInTurn, took_none, one_more}
+use Rattle.processes.proofs.Batching.{becoming as next_system}
 
 module _ {K A Q I M : Type 0} (actors : Actors K A Q I M) (same_name : (j k : K) → (j ≡ k) ⊎ (j ≢ k)) where
   pub choose : {X : Type 0} (j k : K) → (j ≡ k) ⊎ (j ≢ k) → X → X → X
@@ -91,3 +93,33 @@ module _ {K A Q I M : Type 0} (actors : Actors K A Q I M) (same_name : (j k : K)
     -- the same, of a process that is said otherwise
     pub renamed : (q : Process actors) → p ≡ q → By k g q left told
     renamed q is = record { past = by.past; last = by.last; execution = by.execution; here = by.here ∙ is; others = by.others; left_is = by.left_is; told_is = by.told_is }
+
+-- in some execution, in which these messages left, the process of this name is up and this actor
+pub record IsReached {K A Q I M : Type 0} (actors : Actors K A Q I M) (k : K) (left : List M) (a : A) : Type 0 where
+  pub past : List (System actors)
+  pub last : System actors
+  pub execution : Execution actors past last
+  pub store : Q
+  pub unsaved : List A
+  pub held : List M
+  pub ready : List M
+  pub here : last.process k ≡ up_with actors store a unsaved held ready
+  pub left_is : last.left ≡ left
+
+-- and so is what it becomes by what may come
+pub reach_on : {K A Q I M : Type 0} (actors : Actors K A Q I M) (same_name : (j k : K) → (j ≡ k) ⊎ (j ≢ k)) (k : K) (left : List M) (a b : A) (more : List A) (out : List M) → IsReached actors k left a → TakesInTurn actors k left a b more out → IsReached actors k left b
+reach_on actors same_name k left a b more out r took_none = r
+reach_on actors same_name k left a b more out r (one_more {a = mid} {unsaved = before} {out = sent_before} input new others t takes) =
+    let m = reach_on actors same_name k left a mid before sent_before r t in
+    let h = next_system actors same_name m.last k m.store (Up new (m.unsaved ++ new ∷ []) (m.held ++ others) m.ready) m.last.left m.last.told in
+    record {
+      past = m.past ++ m.last ∷ [];
+      last = h.0;
+      execution = continued h.0 m.execution (takes_item k m.store mid new m.unsaved m.held m.ready input others h.0 m.here (subst (λ l. actors.Takes l k mid input new others) (sym m.left_is) takes) h.1);
+      store = m.store;
+      unsaved = m.unsaved ++ new ∷ [];
+      held = m.held ++ others;
+      ready = m.ready;
+      here = h.1.here;
+      left_is = h.1.left_is ∙ m.left_is;
+    }

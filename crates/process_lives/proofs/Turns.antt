@@ -10,7 +10,7 @@ use Rattle.processes.specs.Claims.{OccursIn, TakesInTurn, took_none, one_more}
 use Rattle.process_lives.specs.Lives.{Code, IsReadAs}
 use Rattle.process_lives.specs.Joined.{IsItemOf, IsOfTurn}
 use Rattle.process_lives.proofs.Scripts.{among_more, among_later, among_front, each_among, each_both, each_weaker}
-use Rattle.process_lives.proofs.Steps.{By, take_one}
+use Rattle.process_lives.proofs.Steps.{By, IsReached, take_one}
 
 -- What is sent is these messages, one for one and in order; what else is sent is no frame, and the
 -- rest is reported.
@@ -48,7 +48,7 @@ module _ {K V P A Q I M : Type 0} (c : Code K V P) (actors : Actors K A Q I M)
     pub reads : (k : K) (file : List ℕ) (v : V) → c.BeginsWith k (Some (c.header k ++ file)) v → IsReadAs (c.replay k) file (c.part v)
     pub shows : (k : K) (store : Option (List ℕ)) (v : V) (q : Q) → c.BeginsWith k store v → Keeps k (c.part v) q → Shows k v (actors.restarted q)
     pub keeps : (k : K) (v : V) (a : A) → Shows k v a → Keeps k (c.part v) (actors.stored a)
-    pub turns : (k : K) (left : List M) (item : List ℕ) (old new : V) (outs : List IoEvent) (a : A) → Shows k old a → c.Turn item old new outs → HadCome left item → Turned k left a new outs
+    pub turns : (k : K) (left : List M) (item : List ℕ) (old new : V) (outs : List IoEvent) (a : A) → Shows k old a → IsReached actors k left a → c.Turn item old new outs → HadCome left item → Turned k left a new outs
 
   -- was told, or is to be told when the process next stores
   abbrev pub Known : K → List (ToldActor actors) → List A → A → Type 0
@@ -157,6 +157,9 @@ module _ {K V P A Q I M : Type 0} (c : Code K V P) (actors : Actors K A Q I M)
         (kept_more unsaved t.after) t.sends
         (rest t.actor more (held ++ t.sent) t.shows told_next (took_all a t.actor unsaved t.after held t.sent by t.takes))
 
+    reached : (a : A) (unsaved : List A) (held : List M) → ByUp a unsaved held → IsReached actors k left a
+    reached a unsaved held by = record { past = by.past; last = by.last; execution = by.execution; store = store; unsaved = unsaved; held = held; ready = []; here = by.here; left_is = by.left_is }
+
     pub take_items : (items : List (List ℕ)) (old new : V) (outs : List IoEvent) (a : A) (unsaved : List A) (held : List M) → BatchTurns (c.replay k) c.part c.Turn items old new outs
         → Shows k old a → Known k told unsaved a → AllByRecursion (HadCome left) items → ByUp a unsaved held → TookItems new outs unsaved held
     take_items [] old new outs a unsaved held turns shows known fed by = record {
@@ -176,4 +179,4 @@ module _ {K V P A Q I M : Type 0} (c : Code K V P) (actors : Actors K A Q I M)
         subst (λ l. TookItems new l unsaved held) (sym turns.3)
         (one_then item old turns.0 new turns.1 turns.2 a unsaved held turns.4 shows known by
         (λ b more owed next told_next there. take_items items turns.0 new turns.2 b more owed turns.5 next told_next fed.1 there)
-        (law.turns k left item old turns.0 turns.1 a shows turns.4 fed.0))
+        (law.turns k left item old turns.0 turns.1 a shows (reached a unsaved held by) turns.4 fed.0))

@@ -3,6 +3,7 @@
 use Rattle.std.specs.Prelude.{◌≡◌, ◌<◌, ⊤, ℕ, Option, Some, None, List, [], ◌∷◌, ◌++◌}
 use Rattle.std.specs.Prelude.{option_map}
 use Rattle.std.specs.List.{AllZip}
+use Rattle.rows.specs.Fits.{NodeSpecFits}
 use Rattle.rows.specs.declared.node.NodeSpec.{NodeSpec}
 use Rattle.rows.specs.declared.allocation.AllocId.{AllocId}
 use Rattle.rows.specs.declared.command.Command.{Command}
@@ -10,9 +11,11 @@ use Rattle.cluster_model.specs.ClusterMachine.{cluster_meaning}
 use Rattle.cluster_model.specs.Words.{State}
 use Rattle.raft_model.specs.Rafts.{Raft, restarted}
 use Rattle.group_model.specs.Agents.{Agent, new_life}
-use Rattle.group_model.specs.Messages.{GroupMessage}
+use Rattle.group_model.specs.Inputs.{Arrives}
+use Rattle.group_model.specs.Messages.{GroupMessage, Service}
 use Rattle.group_model.specs.Servers.{Server}
 use Rattle.group_model.specs.Worlds.{agents_from, client_at}
+use Rattle.group_safety.specs.Limits.{InputFits}
 use Rattle.raft_snapshot.specs.Stored.{Stored}
 use Rattle.wire.specs.Frames.{Frame, IsFrame, sized}
 use Rattle.wire.specs.Messages.{Message}
@@ -26,7 +29,8 @@ use Rattle.processes.specs.Processes.{System, Execution, told_by}
 use Rattle.processes.specs.Claims.{OccursIn}
 use Rattle.processes.specs.Logs.{nothing_persistent, started}
 use Rattle.processes.specs.Groups.{Who, ServerOf, ClientOf, GroupActor, GroupServer, GroupClient}
-use Rattle.processes.specs.Groups.{Item, Comes, GroupTakes, group_actors}
+use Rattle.processes.specs.Groups.{Item, Comes, ServerInput, ClientInput, ProposalFits}
+use Rattle.processes.specs.Groups.{GroupTakes, group_actors}
 use Rattle.processes.specs.Headline.{KeepsPromises}
 use Rattle.process_lives.specs.Lives.{Code, Past, HasDone, IsReadAs}
 use Rattle.process_lives.specs.Joined.{IsOfTurn, IsOutput}
@@ -64,22 +68,42 @@ pub data Handed : Type 0 where
   FrameHanded : (bytes : List ℕ) → Handed
   InputHanded : (input : Item) → Handed
 
+abbrev pub IsOwn : Item → Type 0
+IsOwn (Comes message) = ⊥
+IsOwn (ServerInput input) = ⊤
+IsOwn (ClientInput input) = ⊤
+
 -- an item is handed in as a frame where it is one
 abbrev pub MayMean : List ℕ → Handed → Type 0
 MayMean item (FrameHanded bytes) = (bytes ≡ item) × IsFrameItem item
-MayMean item (InputHanded input) = ⊤
+MayMean item (InputHanded input) = IsOwn input
+
+-- an input of a server's own is within its limits
+abbrev pub ItemFits : Item → Type 0
+ItemFits (Comes message) = ⊤
+ItemFits (ServerInput input) = InputFits input
+ItemFits (ClientInput input) = ⊤
+
+-- what an actor proposes by it, if it does, is a command within the limits
+abbrev pub WhatItProposesFits : ℕ → Who → GroupActor → Item → Type 0
+WhatItProposesFits n (ServerOf i) (GroupServer s) (Comes (Service message)) =
+    ProposalFits n i s (Arrives message)
+WhatItProposesFits n (ServerOf i) (GroupServer s) (ServerInput input) = ProposalFits n i s input
+WhatItProposesFits n _ _ _ = ⊤
 
 -- n: the servers of the group; k: whose process it is; Shows: the actor that a value of the code
 -- may be; Stays: what an old and a new value have in common
 module _ (n : ℕ) (k : Who) {V : Type 0} (Shows : V → GroupActor → Type 0)
     (Stays : V → V → Type 0) where
-  -- Where these messages had left the actor takes the input, and the new value is what it is then;
-  -- and these frames are those of what it sends, one for one and in order.
+  -- Where these messages had left the actor takes the input, which is within its limits, and the new
+  -- value is what it is then; and these frames are those of what it sends, one for one and in order.
+  -- That it proposes nothing past the limits need not be shown: so it is in each execution.
   pub record TakesFrom (left : List GroupMessage) (a : GroupActor) (input : Item) (new : V)
       (frames : List Frame) : Type 0 where
     pub actor : GroupActor
     pub sent : List GroupMessage
-    pub takes : GroupTakes n left k a input actor sent
+    pub fits : ItemFits input
+    pub takes : WhatItProposesFits n k a input → GroupTakes n left k a input actor sent
     pub shows : Shows new actor
     pub carry : AllZip (CarriesGroup cluster_meaning) frames sent
 
@@ -194,6 +218,8 @@ module _ {W : Type 0} (size : W → ℕ) (agent : W → Agent) where
         IsNodeOf nodes k (agent w).node
     pub place : (k : ℕ) (store : Option (List ℕ)) (w : W) → c.BeginsWith k store w →
         ((agent w).node.number ≡ k) × (size w ≡ n)
+    pub within : (k : ℕ) (store : Option (List ℕ)) (w : W) → c.BeginsWith k store w →
+        NodeSpecFits (agent w).node
     -- of a former life it knows what it started, and nothing else
     pub starts : (k : ℕ) (store : Option (List ℕ)) (w : W) → c.BeginsWith k store w →
         (agent w).life ≡ Some new_life

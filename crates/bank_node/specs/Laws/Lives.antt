@@ -32,6 +32,7 @@ use Rattle.process_lives.specs.Servers.{AreFrames, MayMean, TurnIs, stays_so, ta
 use Rattle.bank_node.specs.Items.{input_of, is_proposal}
 use Rattle.bank_node.specs.Lines.{refused_line, standing_line, ticket_line}
 use Rattle.bank_node.specs.Lives.{header_text, IsFrameItem, node_code}
+use Rattle.bank_node.specs.Records.{raft_replay}
 use Rattle.bank_node.specs.Starts.{IsStored, new_part}
 use Rattle.bank_node.specs.Turns.{IsTaken, Turn, taken, proposed, refused, shown, told, sends}
 
@@ -126,7 +127,7 @@ module _ {S C : Type 0} (m : Meaning S C) (law : LawfulMachine m) (words : S →
       omega (arith, same, fits.known.1)
 
   -- what the store has is what its records stand for
-  reads_so : (k : ℕ) (file : List ℕ) (v : RaftView S C) → IsStored m (header_text n k) (Some (header_text n k ++ file)) (stored_part v) → IsReadAs (node_code m words reason n) file (stored_part v)
+  reads_so : (k : ℕ) (file : List ℕ) (v : RaftView S C) → IsStored m (header_text n k) (Some (header_text n k ++ file)) (stored_part v) → IsReadAs (raft_replay m) file (stored_part v)
   reads_so k file v (inl (behind, is, kept)) =
       let same : file ≡ behind = append_cancel_left (header_text n k) file behind is in
       record { payloads = kept.payloads; tail = kept.tail; journal = subst (λ l. IsJournal wal_record l kept.payloads kept.tail) (sym same) kept.journal; part_is = kept.part_is }
