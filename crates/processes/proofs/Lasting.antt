@@ -31,7 +31,7 @@ module _ {K A P I M : Type 0} (actors : Actors K A P I M) (same_name : (j k : K)
 
   -- a process that is up after a step came up by it, or was up before it
   pub data WasBefore (g next : System actors) (b : A) (unsaved : List A) : Type 0 where
-    came : IsNotUp actors (g.process k).life → Known next unsaved b → WasBefore g next b unsaved
+    came : (store : P) → actors.restarted store ≡ b → IsNotUp actors (g.process k).life → Known next unsaved b → WasBefore g next b unsaved
     went : (store : P) (a : A) (before : List A) (held ready : List M) → IsUp g store a before held ready → ((x : A) → Known g before x → Known next unsaved x) →
         (a ≡ b) ⊎ ((input : I) × (out : List M) × actors.Takes g.left k a input b out × Known next unsaved b) → WasBefore g next b unsaved
 
@@ -60,7 +60,7 @@ module _ {K A P I M : Type 0} (actors : Actors K A P I M) (same_name : (j k : K)
           let is_now = became j at_store (actors.restarted at_store) [] [] [] g.left (g.told ++ told_by actors j (actors.restarted at_store) ∷ []) c e in
           let a = actors.restarted at_store in
           let told : OccursIn next.told (told_by actors j a) = subst (λ t. OccursIn t (told_by actors j a)) (sym c.told_is) (occurs_later g.told (told_by actors j a ∷ []) (told_by actors j a) (0, refl)) in
-          came (subst (λ (p : Process actors). IsNotUp actors p.life) (sym (ap g.process e ∙ here)) idle)
+          came at_store is_now.0 (subst (λ (p : Process actors). IsNotUp actors p.life) (sym (ap g.process e ∙ here)) idle)
           (inl (subst (λ y. OccursIn next.told (told_by actors k y)) is_now.0 (subst (λ i. OccursIn next.told (told_by actors i a)) (sym e) told)))
     ]
     step_before (takes_item j at_store a new before at_held at_ready input out last here t c) = elim (same_name k j) [
@@ -108,7 +108,7 @@ module _ {K A P I M : Type 0} (actors : Actors K A P I M) (same_name : (j k : K)
 
   known_by : (g next : System actors) (b : A) (unsaved : List A) → ((store : P) (a : A) (before : List A) (held ready : List M) → IsUp g store a before held ready → Known g before a)
       → WasBefore g next b unsaved → Known next unsaved b
-  known_by g next b unsaved earlier (came idle is) = is
+  known_by g next b unsaved earlier (came store begun_so idle is) = is
   known_by g next b unsaved earlier (went store a before held ready was kept (inl same)) = subst (λ y. Known next unsaved y) same (kept a (earlier store a before held ready was))
   known_by g next b unsaved earlier (went store a before held ready was kept (inr t)) = t.3
 

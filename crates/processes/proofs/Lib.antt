@@ -5,6 +5,7 @@ pub mod Batching
 pub mod Looping
 pub mod Logs
 pub mod Groups
+pub mod Rising
 pub mod Lasting
 pub mod Staying
 pub mod Headline

@@ -19,14 +19,17 @@ use Rattle.group_model.specs.Inputs as inputs
 use Rattle.group_model.specs.Servers as servers
 use Rattle.group_model.specs.Servers.{Server}
 use Rattle.group_model.specs.Worlds.{event_at, log_request, LogEventFits}
-use Rattle.processes.specs.Processes.{Up, up_with, IsNotUp, Process, System, told_by, Execution, begun, continued, saves}
+use Rattle.processes.specs.Processes.{NotStarted, Up, up_with, IsNotUp, Process, System, told_by, Execution, begun, continued, saves}
 use Rattle.processes.specs.Claims.{OccursIn}
 use Rattle.processes.specs.Groups as groups
-use Rattle.processes.specs.Groups.{ServerOf, GroupActor, GroupServer, GroupClient, GroupStore, store_of, group_actors, ProposalFits}
+use Rattle.processes.specs.Groups.{OfServer, OfClient, ServerOf, GroupActor, GroupServer, GroupClient, GroupStore, store_of, group_actors, ProposalFits}
+use Rattle.processes.specs.Logs.{started}
+use Rattle.group_model.specs.Agents.{Agent}
 use Rattle.processes.specs.Headline.{ServerTold, KeepsApplied, IsUpAs, LivesFromTo}
 use Rattle.processes.proofs.Fine.{asked_came}
 use Rattle.processes.proofs.Groups.{same_name}
 use Rattle.processes.proofs.Batching.{becoming}
+use Rattle.processes.proofs.Rising.{takes_up}
 use Rattle.processes.proofs.Lasting.{Known, WasBefore, came, went, step_before, known_now, known_told}
 
 -- ---- an item at a server that is up then as well
@@ -64,6 +67,11 @@ module _ (n i : ℕ) (s t : Server) (up : is_up s.raft.mode ≡ true) (still : i
       let same : old ≡ s = cc is in
       done_commit (servers.decides n i s input) turn (subst (λ x. ProposalFits n i x input) same fits) (subst (λ x. servers.step n i x input ≡ Ok turn) same h) (cc now)
 
+no_client : (n i : ℕ) (x : Agent) (t : Server) (left : List GroupMessage) (a : GroupActor) (item : groups.Item) (out : List GroupMessage) → groups.GroupTakes n left (ServerOf i) a item (GroupServer t) out → a ≡ GroupClient x → ⊥
+no_client n i x t left a item out (groups.log_comes j old message turn among to h) is = cc is
+no_client n i x t left a item out (groups.server_comes j old message turn among to fits h) is = cc is
+no_client n i x t left a item out (groups.server_own j old input turn own fits h) is = cc is
+
 module _ (n : ℕ) (nodes : List NodeSpec) where
   abbrev Sys : Type 0
   Sys = System (group_actors n nodes)
@@ -72,6 +80,31 @@ module _ (n : ℕ) (nodes : List NodeSpec) where
   KnownOf i g unsaved s = Known (group_actors n nodes) same_name (ServerOf i) g unsaved (GroupServer s)
 
   -- what two moments of one system say
+  -- a server whose process is up is up
+  up_before : (i : ℕ) (g next : Sys) (t : Server) (unsaved : List GroupActor)
+      → ((v : Server) (store : GroupStore) (before : List GroupActor) (held ready : List GroupMessage) → g.process (ServerOf i) ≡ up_with (group_actors n nodes) store (GroupServer v) before held ready → is_up v.raft.mode ≡ true)
+      → WasBefore (group_actors n nodes) same_name (ServerOf i) g next (GroupServer t) unsaved → is_up t.raft.mode ≡ true
+  up_before i g next t unsaved earlier (came (OfServer p) begun_so idle known) =
+      let same : record { raft = started p; desk = None } ≡ t = cc begun_so in
+      ap (λ (x : Server). is_up x.raft.mode) (sym same)
+  up_before i g next t unsaved earlier (came (OfClient node ids) begun_so idle known) = absurd (cc begun_so)
+  up_before i g next t unsaved earlier (went store a before held ready was kept (inl same)) =
+      earlier t store before held ready (was ∙ ap (λ x. up_with (group_actors n nodes) store x before held ready) same)
+  up_before i g next t unsaved earlier (went store a before held ready was kept (inr took)) = by_old a took.2 was
+    where
+      by_old : (b : GroupActor) → groups.GroupTakes n g.left (ServerOf i) b took.0 (GroupServer t) took.1 → g.process (ServerOf i) ≡ up_with (group_actors n nodes) store b before held ready → is_up t.raft.mode ≡ true
+      by_old (GroupServer v) takes here = takes_up n i v t g.left (GroupServer v) (GroupServer t) took.0 took.1 (earlier v store before held ready here) takes refl refl
+      by_old (GroupClient x) takes here = absurd (no_client n i x t g.left (GroupClient x) took.0 took.1 takes refl)
+
+  up_now : (i : ℕ) (past : List Sys) (g : Sys) → Execution (group_actors n nodes) past g → (t : Server) (store : GroupStore) (unsaved : List GroupActor) (held ready : List GroupMessage)
+      → g.process (ServerOf i) ≡ up_with (group_actors n nodes) store (GroupServer t) unsaved held ready → is_up t.raft.mode ≡ true
+  up_now i past g begun t store unsaved held ready now =
+      let life : NotStarted ≡ Up (GroupServer t) unsaved held ready = ap (λ (p : Process (group_actors n nodes)). p.life) now in
+      absurd (cc life)
+  up_now i past g (continued {past = earlier} {g = last} next e step) t store unsaved held ready now =
+      up_before i last next t unsaved (λ v its_store before its_held its_ready was. up_now i earlier last e v its_store before its_held its_ready was)
+      (step_before (group_actors n nodes) same_name (ServerOf i) last next store (GroupServer t) unsaved held ready now step)
+
   same_server : (i : ℕ) (x y : Sys) (store other : GroupStore) (s t : Server) (unsaved more : List GroupActor) (held out ready rest : List GroupMessage) → x ≡ y
       → x.process (ServerOf i) ≡ up_with (group_actors n nodes) store (GroupServer s) unsaved held ready → y.process (ServerOf i) ≡ up_with (group_actors n nodes) other (GroupServer t) more out rest → s ≡ t
   same_server i x y store other s t unsaved more held out ready rest e a b =
@@ -109,7 +142,6 @@ module _ (n : ℕ) (nodes : List NodeSpec) where
       held = a.held;
       ready = a.ready;
       is = a.is;
-      up = a.up;
     }
 
     narrow_some : (past : List Sys) (g more : Sys) (j : ℕ) → (u : Server) × IsUpAs n nodes (past ++ g ∷ []) more j i u → j ≤ length past → (u : Server) × IsUpAs n nodes past g j i u
@@ -117,37 +149,38 @@ module _ (n : ℕ) (nodes : List NodeSpec) where
 
     -- the server at the end of an execution, whatever it stored
     abbrev AtEnd : Sys → Type 0
-    AtEnd g = (v : Server) (store : GroupStore) (unsaved : List GroupActor) (held ready : List GroupMessage) → g.process (ServerOf i) ≡ up_with (group_actors n nodes) store (GroupServer v) unsaved held ready
-        → is_up v.raft.mode ≡ true → Since i g unsaved s v
+    AtEnd g = (v : Server) (store : GroupStore) (unsaved : List GroupActor) (held ready : List GroupMessage) → g.process (ServerOf i) ≡ up_with (group_actors n nodes) store (GroupServer v) unsaved held ready → Since i g unsaved s v
 
     went_by : (g next : Sys) (u : Server) → is_up u.raft.mode ≡ true → (at_store : GroupStore) (at_unsaved : List GroupActor) (at_held at_ready : List GroupMessage)
         → g.process (ServerOf i) ≡ up_with (group_actors n nodes) at_store (GroupServer u) at_unsaved at_held at_ready → AtEnd g → (t : Server) (unsaved : List GroupActor) → is_up t.raft.mode ≡ true
         → WasBefore (group_actors n nodes) same_name (ServerOf i) g next (GroupServer t) unsaved → Since i next unsaved s t
-    went_by g next u u_up at_store at_unsaved at_held at_ready here rest t unsaved up (came idle known) =
+    went_by g next u u_up at_store at_unsaved at_held at_ready here rest t unsaved up (came its_store begun_so idle known) =
         absurd (subst (λ (p : Process (group_actors n nodes)). IsNotUp (group_actors n nodes) p.life) here idle)
     went_by g next u u_up at_store at_unsaved at_held at_ready here rest t unsaved up (went store a before held ready was kept (inl same)) =
-        let r = rest t store before held ready (was ∙ ap (λ x. up_with (group_actors n nodes) store x before held ready) same) up in
+        let r = rest t store before held ready (was ∙ ap (λ x. up_with (group_actors n nodes) store x before held ready) same) in
         (r.0, kept (GroupServer s) r.1)
     went_by g next u u_up at_store at_unsaved at_held at_ready here rest t unsaved up (went store a before held ready was kept (inr took)) =
         let both : up_with (group_actors n nodes) store a before held ready ≡ up_with (group_actors n nodes) at_store (GroupServer u) at_unsaved at_held at_ready = sym was ∙ here in
         let life : Up a before held ready ≡ Up (GroupServer u) at_unsaved at_held at_ready = ap (λ (p : Process (group_actors n nodes)). p.life) both in
         let is_u : a ≡ GroupServer u = cc life in
-        let r = rest u store before held ready (was ∙ ap (λ x. up_with (group_actors n nodes) store x before held ready) is_u) u_up in
+        let r = rest u store before held ready (was ∙ ap (λ x. up_with (group_actors n nodes) store x before held ready) is_u) in
         let more : u.raft.commit ≤ t.raft.commit = takes_commit n i u t u_up up g.left a (GroupServer t) took.0 took.1 took.2 is_u refl in
         (omega (arith, r.0, more), kept (GroupServer s) r.1)
 
     since : (past : List Sys) (g : Sys) (e : Execution (group_actors n nodes) past g) (k : ℕ) → IsUpAs n nodes past g k i s → LivesFromTo n nodes past g i k (length past) → AtEnd g
-    since past g begun k was lives t store unsaved held ready now up =
+    since past g begun k was lives t store unsaved held ready now =
         at_last [] g was.system begun (sym (get-one g k was.system was.system_is)) was.store was.unsaved was.held was.ready was.is t store unsaved held ready now
-    since past g (continued {past = earlier} {g = last} next e step) k was lives t store unsaved held ready now up = elim (get-where (earlier ++ last ∷ []) (next ∷ []) k was.system was.system_is) [
+    since past g (continued {past = earlier} {g = last} next e step) k was lives t store unsaved held ready now = elim (get-where (earlier ++ last ∷ []) (next ∷ []) k was.system was.system_is) [
       | inr d ↦ at_last (earlier ++ last ∷ []) next was.system (continued next e step) (sym (get-one next d.1.0 was.system d.1.1)) was.store was.unsaved was.held was.ready was.is t store unsaved held ready now
       | inl d ↦
-          let then_was : IsUpAs n nodes earlier last k i s = record { system = was.system; system_is = d.1; store = was.store; unsaved = was.unsaved; held = was.held; ready = was.ready; is = was.is; up = was.up } in
+          let then_was : IsUpAs n nodes earlier last k i s = record { system = was.system; system_is = d.1; store = was.store; unsaved = was.unsaved; held = was.held; ready = was.ready; is = was.is } in
           let m = lives (length earlier) (omega (arith, d.0, push_length earlier last)) (omega (arith, push_length earlier last)) in
           let is_last : m.1.system ≡ last = same_some m.1.system last (get-more (earlier ++ last ∷ []) (next ∷ []) (length earlier) last (get-last earlier last)) m.1.system_is in
           let here = ap (λ (z : Sys). z.process (ServerOf i)) (sym is_last) ∙ m.1.is in
           let before : LivesFromTo n nodes earlier last i k (length earlier) = λ j low high. narrow_some earlier last next j (lives j low (omega (arith, high, push_length earlier last))) high in
-          went_by last next m.0 m.1.up m.1.store m.1.unsaved m.1.held m.1.ready here (since earlier last e k then_was before) t unsaved up
+          let u_up = up_now i earlier last e m.0 m.1.store m.1.unsaved m.1.held m.1.ready here in
+          let up = up_now i (earlier ++ last ∷ []) next (continued next e step) t store unsaved held ready now in
+          went_by last next m.0 u_up m.1.store m.1.unsaved m.1.held m.1.ready here (since earlier last e k then_was before) t unsaved up
           (step_before (group_actors n nodes) same_name (ServerOf i) last next store (GroupServer t) unsaved held ready now step)
     ]
 
@@ -174,12 +207,12 @@ module _ (n : ℕ) (nodes : List NodeSpec) where
     pub applied_stays : (past : List Sys) (g : Sys) → Execution (group_actors n nodes) past g → (k l : ℕ) (s t : Server) → k ≤ l → IsUpAs n nodes past g k i s → IsUpAs n nodes past g l i t → LivesFromTo n nodes past g i k l → KeepsApplied s.raft t.raft
     applied_stays past g begun k l s t le a b lives =
         told_both [] g begun s t b.store b.unsaved b.held b.ready (ap (λ (z : Sys). z.process (ServerOf i)) (get-one g l b.system b.system_is) ∙ b.is)
-        (since i s [] g begun k a (λ j low high. lives j low (omega (arith, high))) t b.store b.unsaved b.held b.ready (ap (λ (z : Sys). z.process (ServerOf i)) (get-one g l b.system b.system_is) ∙ b.is) b.up)
+        (since i s [] g begun k a (λ j low high. lives j low (omega (arith, high))) t b.store b.unsaved b.held b.ready (ap (λ (z : Sys). z.process (ServerOf i)) (get-one g l b.system b.system_is) ∙ b.is))
     applied_stays past g (continued {past = earlier} {g = last} next e step) k l s t le a b lives = elim (get-where (earlier ++ last ∷ []) (next ∷ []) l b.system b.system_is) [
       | inr d ↦
           let here = ap (λ (z : Sys). z.process (ServerOf i)) (get-one next d.1.0 b.system d.1.1) ∙ b.is in
           told_both (earlier ++ last ∷ []) next (continued next e step) s t b.store b.unsaved b.held b.ready here
-          (since i s (earlier ++ last ∷ []) next (continued next e step) k a (λ j low high. lives j low (omega (arith, high, d.0))) t b.store b.unsaved b.held b.ready here b.up)
+          (since i s (earlier ++ last ∷ []) next (continued next e step) k a (λ j low high. lives j low (omega (arith, high, d.0))) t b.store b.unsaved b.held b.ready here)
       | inl d ↦
           let size = push_length earlier last in
           let first = narrow i s earlier last next k s a (omega (arith, le, d.0, size)) in

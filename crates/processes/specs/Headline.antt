@@ -7,7 +7,7 @@ use Rattle.rows.specs.declared.command.AcceptedPlan.{AcceptedPlan}
 use Rattle.rows.specs.declared.command.Command.{Command}
 use Rattle.rows.specs.declared.command.Command.TheVariants as commands
 use Rattle.machine_model.specs.declared.entry.Entry.{Entry}
-use Rattle.raft_model.specs.Rafts.{Raft, is_up, is_leader}
+use Rattle.raft_model.specs.Rafts.{Raft, is_leader}
 use Rattle.raft_model.specs.Chains.{Agree}
 use Rattle.group_model.specs.Servers.{Server}
 use Rattle.group_model.specs.Agents.{Agent}
@@ -38,7 +38,7 @@ KeepsApplied earlier later =
 -- of an execution: the systems before the last one, and the last one
 module _ (n : ℕ) (nodes : List NodeSpec) (past : List (System (group_actors n nodes)))
     (g : System (group_actors n nodes)) where
-  -- at moment k the process of server i is up, and its server is up and this
+  -- at moment k the process of server i is up, and its server is this
   pub record IsUpAs (k i : ℕ) (s : Server) : Type 0 where
     pub system : System (group_actors n nodes)
     pub system_is : slice_get (past ++ g ∷ []) k ≡ Some system
@@ -48,7 +48,6 @@ module _ (n : ℕ) (nodes : List NodeSpec) (past : List (System (group_actors n 
     pub ready : List GroupMessage
     pub is : system.process (ServerOf i)
         ≡ up_with (group_actors n nodes) store (GroupServer s) unsaved held ready
-    pub up : is_up s.raft.mode ≡ true
 
   -- it is up at each moment from k to l: they are of one life
   abbrev pub LivesFromTo : ℕ → ℕ → ℕ → Type 0
