@@ -21,7 +21,8 @@ use Rattle.processes.proofs.Simulated.{OneEvent, IsSimulated}
 use Rattle.processes.specs.Logs as logs
 use Rattle.processes.specs.Groups as groups
 use Rattle.processes.proofs.Logs.{get_set-other}
-use Rattle.processes.proofs.Fine.{Fine, log_message_fine, step_fine, own_live}
+use Rattle.processes.proofs.Fine.{Fine}
+use Rattle.processes.proofs.Rising.{takes_up}
 
 client_same : (cs : List Agent) (c : ℕ) (x y : Agent) → client_at cs c ≡ Some x → client_at (with_client cs c y) c ≡ Some y
 client_same cs zero x y h = absurd (cc)
@@ -176,8 +177,7 @@ module _ (n : ℕ) (nodes : List NodeSpec) where
         inr (client_more c x (record x { life = None }) [] (AtClient c agents.Crash) here tt (client_takes_is c x agents.Crash turn here (ap (λ y. agents.step_of n x y agents.Crash) e)))
 
     crashes : (k : groups.Who) (a : groups.GroupActor) → groups.actor_named w k ≡ Some a → Fine a → (a ≡ groups.stopped_by (groups.store_of a)) ⊎ One events past w k (groups.stopped_by (groups.store_of a)) []
-    crashes (groups.ServerOf i) (groups.GroupServer s) here (inl up) = inr (server_falls i s (server_is _ s here) up)
-    crashes (groups.ServerOf i) (groups.GroupServer s) here (inr e) = inl e
+    crashes (groups.ServerOf i) (groups.GroupServer s) here up = inr (server_falls i s (server_is _ s here) up)
     crashes (groups.ServerOf i) (groups.GroupClient x) here fine = absurd (no_server (slice_get w.servers i) x here)
       where
         no_server : (y : Option Server) (x : Agent) → groups.as_server y ≡ Some (groups.GroupClient x) → ⊥
@@ -227,14 +227,14 @@ module _ (n : ℕ) (nodes : List NodeSpec) where
   grows left sent k a b item out on (groups.client_own c x input turn own h) = groups.client_own c x input turn own h
 
   fine_takes : (sent : List GroupMessage) (k : groups.Who) (a b : groups.GroupActor) (input : groups.Item) (out : List GroupMessage) → Fine a → groups.GroupTakes n sent k a input b out → Fine b
-  fine_takes sent k a b item out fine (groups.log_comes i s message turn among to h) = log_message_fine n i s message turn to h
-  fine_takes sent k a b item out fine (groups.server_comes i s message turn among is fits h) = step_fine n i s (inputs.Arrives message) turn tt fits h
+  fine_takes sent k a b item out fine (groups.log_comes i s message turn among to h) = takes_up n i s turn.server sent (groups.GroupServer s) (groups.GroupServer turn.server) item out fine (groups.log_comes i s message turn among to h) refl refl
+  fine_takes sent k a b item out fine (groups.server_comes i s message turn among is fits h) = takes_up n i s turn.server sent (groups.GroupServer s) (groups.GroupServer turn.server) item out fine (groups.server_comes i s message turn among is fits h) refl refl
   fine_takes sent k a b item out fine (groups.client_comes c x server response turn among h) = tt
-  fine_takes sent k a b item out fine (groups.server_own i s input turn own fits h) = step_fine n i s input turn (own_live n i s input own) fits h
+  fine_takes sent k a b item out fine (groups.server_own i s input turn own fits h) = takes_up n i s turn.server sent (groups.GroupServer s) (groups.GroupServer turn.server) item out fine (groups.server_own i s input turn own fits h) refl refl
   fine_takes sent k a b item out fine (groups.client_own c x input turn own h) = tt
 
   fine_begin : (p : groups.GroupStore) → Fine (groups.begun_by p)
-  fine_begin (groups.OfServer p) = inl refl
+  fine_begin (groups.OfServer p) = refl
   fine_begin (groups.OfClient node ids) = tt
 
   store_begin : (p : groups.GroupStore) → groups.store_of (groups.begun_by p) ≡ p

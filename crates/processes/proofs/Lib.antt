@@ -1,11 +1,11 @@
 pub mod Simulated
 pub mod Generic
 pub mod Fine
+pub mod Rising
 pub mod Batching
 pub mod Looping
 pub mod Logs
 pub mod Groups
-pub mod Rising
 pub mod Lasting
 pub mod Staying
 pub mod Headline
