@@ -95,9 +95,9 @@ WhatItProposesFits n _ _ _ = ⊤
 -- may be; Stays: what an old and a new value have in common
 module _ (n : ℕ) (k : Who) {V : Type 0} (Shows : V → GroupActor → Type 0)
     (Stays : V → V → Type 0) where
-  -- Where these messages had left the actor takes the input, which is within its limits, and the new
-  -- value is what it is then; and these frames are those of what it sends, one for one and in order.
-  -- That it proposes nothing past the limits need not be shown: so it is in each execution.
+  -- Where these messages had left the actor takes the input, which is within its limits, and the
+  -- new value is what it is then; and these frames are those of what it sends, one for one and in
+  -- order. That it proposes nothing past the limits need not be shown: so it is in each execution.
   pub record TakesFrom (left : List GroupMessage) (a : GroupActor) (input : Item) (new : V)
       (frames : List Frame) : Type 0 where
     pub actor : GroupActor
