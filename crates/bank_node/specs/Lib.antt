@@ -1,11 +1,1 @@
 pub mod Statuses
-pub mod Items
-pub mod Lines
-pub mod Turns
-pub mod Records
-pub mod Reading
-pub mod Starts
-pub mod Inner
-pub mod Laws
-pub mod Lives
-pub mod Books

@@ -1,6 +1,10 @@
 -- Faults: the exit status of a run that ends by one, and what each is of.
-use Rattle.std.specs.Prelude.{ℕ, Bool, true, false}
+use Rattle.std.specs.Prelude.{ℕ}
+use Rattle.bank_server.specs.declared.start.StartError.{StartError}
+use Rattle.bank_server.specs.declared.start.StartError.TheVariants as starts
 use Rattle.journal.specs.declared.host.OpenError.{OpenError}
+use Rattle.bank_server.specs.declared.start.StartError.{StartError}
+use Rattle.bank_server.specs.declared.start.StartError.TheVariants as starts
 use Rattle.journal.specs.declared.host.OpenError.TheVariants as errors
 use Rattle.journal.specs.declared.stop.Stop.{Stop}
 use Rattle.journal.specs.declared.stop.Stop.TheVariants as stops
@@ -22,15 +26,7 @@ status_of faults.Input = 2
 status_of faults.Output = 2
 status_of faults.NoMemory = 3
 
--- what a run may end by before its first item
-abbrev pub is_of_beginning : Fault → Bool
-is_of_beginning faults.Usage = true
-is_of_beginning (faults.BadStore place) = true
-is_of_beginning faults.Another = true
-is_of_beginning faults.NoMemory = true
-is_of_beginning _ = false
-
--- what stopped the loop, and why a journal was not opened
+-- what stopped the loop, why a journal was not opened, and why no server began
 abbrev pub fault_of : Stop → Fault
 fault_of (stops.TooLong size) = faults.TooLong size
 fault_of stops.Cut = faults.Cut
@@ -44,3 +40,9 @@ open_fault errors.NoMemory = faults.NoMemory
 open_fault errors.NotAFile = faults.NotAFile
 open_fault errors.InUse = faults.InUse
 open_fault errors.Unread = faults.Unread
+
+abbrev pub start_fault : StartError → Fault
+start_fault starts.NoMember = faults.Usage
+start_fault starts.Another = faults.Another
+start_fault (starts.BadStore place) = faults.BadStore place
+start_fault starts.NoMemory = faults.NoMemory

@@ -2,9 +2,10 @@
 ghost use Rattle.std.specs.Prelude.{◌≡◌, ◌≢◌, ◌≤◌, ◌↔◌};
 ghost use Rattle.std.specs.IoError.{error_kind};
 ghost use Rattle.std.specs.declared.io.ErrorKind.TheVariants.{OutOfMemory};
-ghost use Rattle.bank_node.specs.Statuses.{fault_of, open_fault, status_of};
+ghost use Rattle.bank_node.specs.Statuses.{fault_of, open_fault, start_fault, status_of};
 ghost use Rattle.bank_node.specs.declared.fault.Fault.TheVariants as faults;
 
+use bank_server::StartError;
 use journal::{OpenError, Stop};
 use rows::NoMemory;
 use std::alloc::AllocError;
@@ -103,6 +104,19 @@ impl From<OpenError> for Fault {
             OpenError::NotAFile => Fault::NotAFile,
             OpenError::InUse => Fault::InUse,
             OpenError::Unread => Fault::Unread,
+        }
+    }
+}
+
+impl From<StartError> for Fault {
+    ghost from_gives = { λ error fault. fault ≡ start_fault error };
+
+    fn from(error: StartError) -> Fault {
+        match error {
+            StartError::NoMember => Fault::Usage,
+            StartError::Another => Fault::Another,
+            StartError::BadStore(place) => Fault::BadStore(place),
+            StartError::NoMemory => Fault::NoMemory,
         }
     }
 }

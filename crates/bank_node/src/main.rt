@@ -1,25 +1,17 @@
 //! One server of a group that replicates a bank, as a process. It reads items from its standard
-//! input, frames and events of its own, and writes frames to its output. What it stores is in a
-//! file before a frame that tells of it leaves.
+//! input, writes frames to its output, and keeps its journal in a file.
 #![tactic(auto)]
 
 ghost use Rattle.std.specs.Prelude.{◌≡◌, IfOk};
-ghost use Rattle.bank_node.specs.Lives.{header_text};
+ghost use Rattle.bank_server.specs.Lives.{header_text};
 
-mod delta;
 mod fault;
-mod law;
-mod lines;
-mod node;
-mod start;
 
 use bank::Bank;
+use bank_server::{Node, begin, live};
 use fault::Fault;
 use journal::{Host, MAGIC};
-use law::live;
-use node::Node;
 use rows::{NoMemory, ServerId};
-use start::begin;
 use std::alloc::Global;
 use std::env;
 use std::io::Write;
