@@ -1,6 +1,5 @@
 -- What of a log a step left, found by terms.
-use Rattle.std.proofs.Common.{◌≡◌, ◌∙◌, ◌⊎◌, inl, inr, Bool, true, false, ℕ, zero, suc, ◌+◌, ◌-◌, ◌<◌, ◌≤◌, List, length, take, ap, sym, subst, arith, take_all}
-use Rattle.std.specs.Prelude.{MatchBool, ⊤}
+use Rattle.std.proofs.Common.{◌≡◌, ◌∙◌, ◌⊎◌, inl, inr, ℕ, zero, suc, ◌+◌, ◌-◌, ◌<◌, ◌≤◌, List, length, take, ap, sym, subst, arith, take_all}
 use Rattle.machine_model.specs.declared.entry.Entry.{Entry}
 use Rattle.raft_model.specs.Logs.{term_at}
 use Rattle.raft_snapshot.specs.Changes.{SameTerms, SharesEntries}
@@ -8,8 +7,6 @@ use Rattle.raft_snapshot.specs.Stored.{Stored}
 use Rattle.raft_snapshot.proofs.Changes.{shares_over}
 use Rattle.raft_core.specs.RaftView.{RaftView}
 use Rattle.raft_core.specs.StoredParts.{stored_part, KeepsLog}
-use Rattle.raft_core.specs.Tickets.{HasNoTermAt}
-use Rattle.process_lives.specs.Servers.{CoversAll}
 use Rattle.bank_server.specs.declared.delta.Before.{Before}
 use Rattle.bank_server.specs.Inner.Before.{SharesTerms, Remembers}
 
@@ -47,13 +44,3 @@ module _ {S C : Type 0} where
           ∙ ap (λ v. with new.server.term v old.base old.server.log) (sym r.vote ∙ sym vote)
           ∙ ap (λ x. with new.server.term new.server.vote x old.server.log) (sym kept_log.base)
           ∙ ap (with new.server.term new.server.vote new.base) logs
-
--- ---- what a snapshot covers
-
-pub covers_both : {S C : Type 0} (view : RaftView S C) (covered : ℕ) (b : Bool) → covered ≡ view.base.index → covered ≤ length view.server.log → HasNoTermAt view.server covered
-    → MatchBool b ((view.server.covered ≤ covered) ⊎ (length view.server.log ≤ covered)) ⊤ → MatchBool b (CoversAll view) ⊤
-covers_both view covered false is within none most = tt
-covers_both view covered true is within none most = record {
-  least = elim none [ inl least ↦ omega (arith, is, least) | inr past ↦ absurd (omega (arith, within, past)) ];
-  most = elim most [ inl low ↦ inl (omega (arith, is, low)) | inr short ↦ inr (omega (arith, is, short)) ];
-}

@@ -22,6 +22,7 @@ use Rattle.raft_core.specs.Tickets.{IsTicket, standing_of}
 use Rattle.raft_core.specs.declared.ticket.Standing.{Standing}
 use Rattle.raft_snapshot.specs.Bases.{Base}
 use Rattle.raft_snapshot.specs.Changes.{changed_part, log_change}
+use Rattle.raft_snapshot.specs.Shown.{IsShown}
 use Rattle.raft_snapshot.specs.Stored.{Stored}
 use Rattle.raft_snapshot.specs.Texts.{front, stable_at, stable_text}
 use Rattle.raft_snapshot.proofs.TextLaws.{front_lawful}
@@ -117,15 +118,15 @@ module _ {S C : Type 0} (m : Meaning S C) (item : List ℕ) where
     asks = other_asks is ∙ ap Ok (sym of)
 
     step_taken : IsBytes item → (before after : List Frame) → before ≡ [] → ((s : Raft C) → Represents m old s → Takes m old s h new before after)
-        → ((s : Raft C) → Represents m old s → refusal m old.size old.me s h ≡ None) → SameNumber old new → CoversAll new → IsTaken m item old new after
-    step_taken bytes before after none takes admitted same covers = record {
+        → ((s : Raft C) → Represents m old s → refusal m old.size old.me s h ≡ None) → SameNumber old new → IsShown new.base new.server → IsTaken m item old new after
+    step_taken bytes before after none takes admitted same shows = record {
       bytes = bytes;
       handed = h;
       is = asks;
       step = λ s r. subst (λ l. Takes m old s h new l after) none (takes s r);
       admitted = admitted;
       same = same;
-      covers = λ _. covers;
+      covers = λ _. record { least = omega (arith, shows.count); most = inl (omega (arith, shows.count)) };
     }
 
     pub step_declined : (cause : Refusal) → Stays h cause old new → ((s : Raft C) → Represents m old s → IsRefused m old.size old.me s h cause) → IsDeclined m item old new cause
@@ -178,9 +179,9 @@ module _ {S C : Type 0} (m : Meaning S C) (item : List ℕ) where
 
     pub taken_made : (h : Handed C) (old new : RaftView S C) (none frames : List Frame) (before after : List IoEvent) → item ≢ codes "S" → is_proposal item ≡ false → is_question item ≡ false
         → h ≡ input_of item → none ≡ [] → IsBytes item → ((s : Raft C) → Represents m old s → Takes m old s h new none frames)
-        → ((s : Raft C) → Represents m old s → refusal m old.size old.me s h ≡ None) → SameNumber old new → CoversAll new → after ≡ before ++ sends frames → Made old new before after
-    taken_made h old new none frames before after other no_proposal no_question of empty bytes takes admitted same covers put =
-        (sends frames, taken frames other no_proposal no_question (step_taken h old new no_proposal of bytes none frames empty takes admitted same covers) refl, put)
+        → ((s : Raft C) → Represents m old s → refusal m old.size old.me s h ≡ None) → SameNumber old new → IsShown new.base new.server → after ≡ before ++ sends frames → Made old new before after
+    taken_made h old new none frames before after other no_proposal no_question of empty bytes takes admitted same shows put =
+        (sends frames, taken frames other no_proposal no_question (step_taken h old new no_proposal of bytes none frames empty takes admitted same shows) refl, put)
 
 -- of an item that is no Compact it is said how much of the log a step keeps
 kept_by : {S C : Type 0} (t b c : Bool) (item : List ℕ) (old new : RaftView S C) → c ≢ true

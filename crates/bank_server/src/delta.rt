@@ -6,7 +6,6 @@ ghost use Rattle.raft_core.specs.RaftView.{RaftView};
 ghost use Rattle.raft_core.specs.StoredParts.{stored_part, KeepsLog};
 ghost use Rattle.bank_server.specs.Inner.Before.{HasTerms, Remembers, SharesTerms};
 ghost use Rattle.bank_server.specs.Records.{IsDelta};
-ghost use Rattle.process_lives.specs.Servers.{CoversAll};
 
 use machine::Machine;
 use raft_core::Raft;
@@ -142,36 +141,6 @@ pub fn changed<M: Machine>(server: &Raft<M>, before: &Before) -> LogDelta
     match Index::new(keep) {
         Some(keep) => LogDelta::Behind(keep),
         None => LogDelta::Whole,
-    }
-}
-
-/// Whether the snapshot of a server covers no more than this, or nothing stands behind it.
-fn covers_no_more<M: Machine>(server: &Raft<M>, covered: Index) -> bool
-    ensures { MatchBool result
-        ((server.now.server.covered ≤ covered) ⊎ (length server.now.server.log ≤ covered)) ⊤ }
-{
-    if server.last().get() <= covered.get() {
-        return true;
-    }
-    let Some(next) = Index::new(covered.get() + 1) else {
-        return false;
-    };
-    match server.term_at(next) {
-        Some(_) => true,
-        None => false,
-    }
-}
-
-/// Whether the snapshot of a server covers just what it has no entries of, which is what a restart
-/// begins with. So it is of each server, but `raft_core` does not tell; with one of which it were
-/// not so nobody goes on.
-pub fn covers_all<M: Machine>(server: &Raft<M>) -> bool
-    ensures { MatchBool result (CoversAll server.now) ⊤ }
-{
-    let covered = server.covered();
-    match server.term_at(covered) {
-        Some(_) => false,
-        None => covers_no_more(server, covered),
     }
 }
 

@@ -21,7 +21,7 @@ ghost use Rattle.bank_server.specs.Records.{IsDelta, raft_replay};
 ghost use Rattle.bank_server.specs.Turns.{Turn, IsTaken, IsDeclined, sends};
 ghost use Rattle.bank_server.specs.declared.delta.LogDelta.TheVariants as deltas;
 
-use crate::delta::{Before, LogDelta, changed, covers_all, joined, remember};
+use crate::delta::{Before, LogDelta, changed, joined, remember};
 use crate::lines::{Words, refused_line, standing_line, standing_word, status_line, ticket_line};
 use fields::{read_index, read_term};
 use journal::{Actor, Out, Saving, item_of};
@@ -241,9 +241,7 @@ impl<M: Words> Node<M> {
         let mut frames = Frames::new(alloc);
         match self.server.step(input_of::<M>(item), &mut frames) {
             Ok(()) => {
-                if !covers_all(&self.server) {
-                    return Err(NoMemory);
-                }
+                self.server.shown();
                 let delta = delta_of(&self.server, item, &before);
                 *change = joined::<M>(*change, delta);
                 put_frames(alloc, &frames, outs)

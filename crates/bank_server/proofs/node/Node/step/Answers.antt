@@ -17,7 +17,7 @@ returns-in-Ok-clause-turn g c =
     on_ok_weaker c.put_frames.result
     (λ put. subst (λ v. Made m item words reason v new before after) c.self.view_is
     (taken_made m item words reason (handed c.input_of.result) c.self.inside.server new c.new-frames.result c.step.new.outbox before after c.requires.other c.requires.no_proposal
-    c.requires.no_question c.input_of.ensures c.new-frames.ensures (λ i. omega (arith, c.type_inv.item i)) c.in-Ok.ensures.taken c.in-Ok.ensures.admitted c.in-Ok.ensures.same c.if-not-covers_all.ensures put))
+    c.requires.no_question c.input_of.ensures c.new-frames.ensures (λ i. omega (arith, c.type_inv.item i)) c.in-Ok.ensures.taken c.in-Ok.ensures.admitted c.in-Ok.ensures.same c.shown.ensures put))
     c.put_frames.ensures
 
 pub returns-clause-turn : goal.returns-clause-turn
