@@ -8,6 +8,7 @@ mod held_cells;
 mod messages;
 mod old_texts;
 mod plain_faults;
+mod processes;
 mod running;
 mod servers;
 mod snapshots;

@@ -13,7 +13,7 @@ use world::{Done, RaftEvent, RaftWorld};
 
 /// What happens. Messages and servers are numbered from 1.
 #[derive(Clone, Copy)]
-enum Step {
+pub(super) enum Step {
     Deliver(u64),
     Timeout(u8),
     Beat(u8),
@@ -187,7 +187,7 @@ const TEXT: &[u8] = &[
     0, 0, 0, 0, 0, 0, 0, 100, 0, 0, 0, 0, 0, 0, 0, 25,
 ];
 
-fn command_of(step: Step) -> Option<BankCommand> {
+pub(super) fn command_of(step: Step) -> Option<BankCommand> {
     Some(match step {
         Open(_) => BankCommand::Open,
         Deposit(_, account, amount) => {
@@ -206,7 +206,7 @@ fn command_of(step: Step) -> Option<BankCommand> {
 }
 
 /// The event of a step that proposes nothing, and asks nothing.
-fn event_of(step: Step) -> Option<RaftEvent<Bank>> {
+pub(super) fn event_of(step: Step) -> Option<RaftEvent<Bank>> {
     Some(match step {
         Deliver(message) => RaftEvent::Deliver(message),
         Timeout(server) => RaftEvent::Timeout(ServerId::from_number(server)?),
@@ -218,7 +218,7 @@ fn event_of(step: Step) -> Option<RaftEvent<Bank>> {
     })
 }
 
-fn number_of(done: Result<Done, Refusal>) -> u8 {
+pub(super) fn number_of(done: Result<Done, Refusal>) -> u8 {
     match done {
         Ok(Done::Taken) => 0,
         Ok(Done::Crashed) => 99,
