@@ -27,7 +27,6 @@ use Rattle.raft_snapshot.specs.Stored.{Stored}
 use Rattle.raft_snapshot.specs.Texts.{front, stable_at, stable_text}
 use Rattle.raft_snapshot.proofs.TextLaws.{front_lawful}
 use Rattle.journal.specs.Events.{IoEvent, BytesSent, LineReported}
-use Rattle.process_lives.specs.Servers.{CoversAll}
 use Rattle.bank_server.specs.Inner.Before.{Remembers}
 use Rattle.bank_server.specs.Inner.Refusals.{is_memory}
 use Rattle.bank_server.specs.Items.{asked, input_of, is_proposal, is_question, ticket}

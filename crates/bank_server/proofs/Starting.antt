@@ -1,5 +1,6 @@
 -- The records of a journal, read one after the other.
 use Rattle.std.proofs.Common.{◌≡◌, ◌∙◌, ℕ, inl, List, [], ◌∷◌, ◌++◌, Option, Some, None, Result, Ok, Err, IfOk, length, drop, ap, sym, refl, subst, append_assoc, IfErr}
+use Rattle.std.specs.Prelude.{codes}
 use Rattle.std.specs.List.{flat_map, AllByRecursion}
 use Rattle.std.proofs.lemmas.List.{append-nil}
 use Rattle.std.proofs.lemmas.Grind.{flat_map-append}
@@ -14,7 +15,7 @@ use Rattle.bank_server.specs.Reading.{ReplaysUpTo}
 use Rattle.bank_server.specs.Records.{raft_replay}
 use Rattle.bank_server.specs.declared.start.StartError.{StartError}
 use Rattle.bank_server.specs.declared.start.StartError.TheVariants as errors
-use Rattle.bank_server.specs.Starts.{FaultAt, IsBadStore, no_change, no_tail, ReplaysTo, IsStored}
+use Rattle.bank_server.specs.Starts.{FaultAt, IsAnothers, IsBadStore, no_change, no_tail, ReplaysTo, IsStored}
 
 all_push : {A : Type 0} (P : A → Type 0) (xs : List A) (x : A) → AllByRecursion P xs → P x → AllByRecursion P (xs ++ x ∷ [])
 all_push P [] x all p = (p, tt)
@@ -98,3 +99,12 @@ module _ {S C : Type 0} (m : Meaning S C) where
       → IfErr r (λ error. (place : ℕ) → error ≡ errors.BadStore place → FaultAt m bytes (length header) place) → IfErr r (λ error. (place : ℕ) → error ≡ errors.BadStore place → IsBadStore m header stored place)
   bad_behind header bytes stored (Ok x) is why = tt
   bad_behind header bytes stored (Err fault) is why = λ place e. subst (λ o. IsBadStore m header o place) (sym is) (inl (why place e))
+
+-- a journal's own records are not another's
+pub own_only : {T : Type 0} (r : Result T StartError) (P : Type 0) → IfErr r (λ error. error ≡ errors.Another → ⊥) → IfErr r (λ error. error ≡ errors.Another → P)
+own_only (Ok x) P never = tt
+own_only (Err error) P never = λ is. absurd (never is)
+
+pub anothers_there : (header bytes behind : List ℕ) (stored : Option (List ℕ)) → stored ≡ Some bytes → bytes ≡ codes "minutebarn journal " ++ behind
+    → ((rest : List ℕ) → bytes ≡ header ++ rest → ⊥) → IsAnothers header stored
+anothers_there header bytes behind stored is front other = subst (λ o. IsAnothers header o) (sym is) ((behind, front), other)

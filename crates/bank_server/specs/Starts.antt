@@ -1,5 +1,5 @@
 -- What a node starts from.
-use Rattle.std.specs.Prelude.{◌≡◌, ◌⊎◌, ℕ, Option, Some, None, Ok, Err, List, [], ◌++◌, drop, length}
+use Rattle.std.specs.Prelude.{◌≡◌, ◌⊎◌, ℕ, Option, Some, None, Ok, Err, List, [], ◌++◌, codes, drop, length}
 use Rattle.machine_model.specs.Meaning.{Meaning}
 use Rattle.raft_snapshot.specs.Kept.{kept}
 use Rattle.raft_snapshot.specs.Stored.{Stored}
@@ -49,3 +49,10 @@ module _ {S C : Type 0} (m : Meaning S C) where
   abbrev pub IsBadStore : List ℕ → Option (List ℕ) → ℕ → Type 0
   IsBadStore header None place = ⊥
   IsBadStore header (Some bytes) place = FaultAt bytes (length header) place ⊎ (stable_at m bytes ≡ Err place)
+
+-- the store is a journal, and its first line is not this one
+abbrev pub IsAnothers : List ℕ → Option (List ℕ) → Type 0
+IsAnothers header None = ⊥
+IsAnothers header (Some bytes) =
+    ((behind : List ℕ) × (bytes ≡ codes "minutebarn journal " ++ behind))
+    × ((behind : List ℕ) → bytes ≡ header ++ behind → ⊥)

@@ -9,7 +9,7 @@ ghost use Rattle.raft_core.specs.StoredParts.{stored_part};
 ghost use Rattle.raft_model.specs.Rafts.{Raft as AnyRaft, restarted};
 ghost use Rattle.bank_server.specs.Lives.{BeginsWith, header_text};
 ghost use Rattle.bank_server.specs.Records.{raft_replay};
-ghost use Rattle.bank_server.specs.Starts.{FaultAt, IsBadStore, IsStored, ReplaysTo};
+ghost use Rattle.bank_server.specs.Starts.{FaultAt, IsAnothers, IsBadStore, IsStored, ReplaysTo};
 ghost use Rattle.bank_server.specs.declared.start.StartError.TheVariants as errors;
 
 use journal::{MAGIC, may_be_torn, next_record};
@@ -53,6 +53,8 @@ pub fn begin<M: Machine>(
     ensures outside { IfErr result (λ error. error ≡ errors.NoMember → IsGroupMember size me → ⊥) }
     ensures fault { IfErr result (λ error. (place : ℕ) → error ≡ errors.BadStore place →
         IsBadStore M.meaning header.now (option_map (λ text. text.now) stored.entry) place) }
+    ensures another { IfErr result (λ error. error ≡ errors.Another →
+        IsAnothers header.now (option_map (λ text. text.now) stored.entry)) }
 {
     let stable = stable_of(alloc, header, stored)?;
     match Raft::restart(alloc, me, size, stable) {
@@ -75,6 +77,8 @@ fn stable_of<M: Machine>(
     ensures outside { IfErr result (λ error. error ≡ errors.NoMember → ⊥) }
     ensures fault { IfErr result (λ error. (place : ℕ) → error ≡ errors.BadStore place →
         IsBadStore M.meaning header.now (option_map (λ text. text.now) stored.entry) place) }
+    ensures another { IfErr result (λ error. error ≡ errors.Another →
+        IsAnothers header.now (option_map (λ text. text.now) stored.entry)) }
 {
     let Some(bytes) = stored else {
         return Ok(Stable::new(alloc));
@@ -98,6 +102,7 @@ fn whole_of<M: Machine>(alloc: Global, payload: &[u8], at: usize) -> Result<Stab
     ensures fault { IfErr result (λ error. (place : ℕ) → error ≡ errors.BadStore place →
         (place ≡ at) × ((raft_replay M.meaning).whole payload.now ≡ None)) }
     ensures outside { IfErr result (λ error. error ≡ errors.NoMember → ⊥) }
+    ensures own { IfErr result (λ error. error ≡ errors.Another → ⊥) }
 {
     match read_stable(alloc, payload) {
         Ok(stable) => Ok(stable),
@@ -130,6 +135,7 @@ fn follow<M: Machine>(
     ensures fault { IfErr result (λ error. (place : ℕ) → error ≡ errors.BadStore place →
         (place ≡ at) × ((raft_replay M.meaning).after stable.old payload.now ≡ None)) }
     ensures outside { IfErr result (λ error. error ≡ errors.NoMember → ⊥) }
+    ensures own { IfErr result (λ error. error ≡ errors.Another → ⊥) }
 {
     let change = match change_of(alloc, payload) {
         Ok(change) => change,
@@ -155,6 +161,7 @@ fn from_journal<M: Machine>(
     ensures fault { IfErr result (λ error. (place : ℕ) → error ≡ errors.BadStore place →
         FaultAt M.meaning bytes.now start place) }
     ensures outside { IfErr result (λ error. error ≡ errors.NoMember → ⊥) }
+    ensures own { IfErr result (λ error. error ≡ errors.Another → ⊥) }
 {
     let Some((payload, next)) = next_record(bytes, start) else {
         return Err(StartError::BadStore(start));
