@@ -9,3 +9,7 @@ pub mod Goings
 pub mod Looks
 pub mod Picks
 pub mod Driving
+pub mod LogDriving
+pub mod GroupSteps
+pub mod GroupDriving
+pub mod GroupFollows

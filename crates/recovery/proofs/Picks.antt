@@ -16,14 +16,12 @@ use Rattle.raft_core.specs.RaftView.{RaftView}
 use Rattle.raft_core.specs.Steps.{Represents}
 use Rattle.raft_progress.proofs.Choosing.{NoOlder, no_older, older_self, older_trans}
 use Rattle.raft_progress.proofs.Settling.{count_none}
-use Rattle.world.specs.WorldView.{WorldView, RunsTo}
-use Rattle.world.proofs.Zips.{zip_length}
 use Rattle.recovery.specs.Runs.{is_up_in}
-use Rattle.recovery.specs.Settling.{InRuns, HasQuorum, LacksQuorum, UpHaveRoom, UpLackRoom}
 use Rattle.recovery.specs.Inner.Spreads.{IsBest, Chosen}
-use Rattle.recovery.specs.Inner.Goings.{Known, IsFull, HasPlace, is_older_log, IsOlder, IsBetter}
+use Rattle.recovery.specs.Inner.Drives.{Drive, LawfulDrive, Ever, HasRun, Known, StandsThere}
+use Rattle.recovery.specs.Inner.Goings.{QuorumIsUp, QuorumLacks, RoomIsThere, RoomLacks, IsFull, HasPlace, is_older_log, IsOlder, IsBetter}
 use Rattle.recovery.proofs.Spreads.{up_is, is_up_at}
-use Rattle.recovery.proofs.Looks.{there, read, read_each, UpAre}
+use Rattle.recovery.proofs.Looks.{count_there, there, read, read_each, UpAre}
 
 -- ---- counts
 
@@ -81,29 +79,58 @@ pub full_raft : {C : Type 0} (s : Raft C) (b : Bool) → is_up s.mode ≡ true �
 full_raft s true up h = λ alive. h
 full_raft s false up h = (up, h)
 
-module _ {S C : Type 0} (m : Meaning S C) (view : WorldView S C) where
+-- so many of the first k are up
+abbrev pub CountIs : {C : Type 0} → ℕ → ℕ → World C → Type 0
+CountIs up k w = up ≡ count (is_up_in w) k
+
+-- it has room
+abbrev pub Roomy : {C : Type 0} → Raft C → Type 0
+Roomy s = (s.term + 2 ≤ MAX) × (length s.log + 2 ≤ MAX)
+
+-- it has room, if it is up
+abbrev pub Takes : {C : Type 0} → Raft C → Type 0
+Takes s = is_up s.mode ≡ true → Roomy s
+
+-- of n servers, the one of the first k with the best log
+pub record BestSoFar {C : Type 0} (n b k : ℕ) (w : World C) : Type 0 where
+  pub less : b < n
+  pub up : is_up_in w b ≡ true
+  pub below : (j : ℕ) (s z : Raft C) → j < k → is_up_in w j ≡ true → slice_get w.servers j ≡ Some s → slice_get w.servers b ≡ Some z → NoOlder s.log z.log
+
+abbrev pub BestBelow : {C : Type 0} → ℕ → Option ℕ → ℕ → World C → Type 0
+BestBelow n None k w = (j : ℕ) → j < k → is_up_in w j ≡ false
+BestBelow n (Some b) k w = BestSoFar n b k w
+
+module _ {V S C : Type 0} (m : Meaning S C) (d : Drive V S C) (view : V) where
+  pub full_read : (k : ℕ) (h : RaftView S C) → StandsThere d m k h view → (b : Bool) → ((s : Raft C) → Represents m h s → MatchBool b ((is_up s.mode ≡ true) × (Roomy s → ⊥)) (Takes s)) →
+      MatchBool b (Ever d view (λ w. IsFull k w)) (Ever d view (λ w. HasPlace k w))
+  full_read k h here true says = λ past w r. let z = read m d view k h (λ s. (is_up s.mode ≡ true) × (Roomy s → ⊥)) here says past w r in (z.0, z.1, z.2.0, z.2.1)
+  full_read k h here false says = read_each m d view k h Takes here says
+
+  pub older_read : (j k : ℕ) (a b : RaftView S C) → StandsThere d m j a view → StandsThere d m k b view → (older : Bool) → ((s t : Raft C) → Represents m a s → Represents m b t → older ≡ is_older_log s.log t.log) → Ever d view (λ w. IsOlder j k older w)
+  older_read j k a b one two older says past w r s t at there2 =
+      says s t (read_each m d view j a (λ q. Represents m a q) one (λ q z. z) past w r s at) (read_each m d view k b (λ q. Represents m b q) two (λ q z. z) past w r t there2)
+
+module _ {V S C : Type 0} (m : Meaning S C) (d : Drive V S C) (dl : LawfulDrive m d) (view : V) where
   -- ---- the quorum
 
-  abbrev pub CountIs : ℕ → ℕ → World C → Type 0
-  CountIs up k w = up ≡ count (is_up_in w) k
+  pub count_start : Ever d view (λ w. CountIs 0 0 w)
+  count_start past w r = sym (count_nobody (is_up_in (d.log w)))
 
-  pub count_start : InRuns m view (λ w. CountIs 0 0 w)
-  count_start past w r = sym (count_nobody (is_up_in w))
+  module _ (up k j : ℕ) (b : Bool) (same : j ≡ k) (old : Ever d view (λ w. CountIs up k w)) (one : Ever d view (λ w. b ≡ is_up_in w j)) where
+    pub count_one : b ≡ true → Ever d view (λ w. CountIs (up + 1) (k + 1) w)
+    count_one is past w r = let e = count_up (is_up_in (d.log w)) k (ap (is_up_in (d.log w)) (sym same) ∙ (sym (one past w r) ∙ is)) in omega (arith, e, old past w r)
 
-  module _ (up k j : ℕ) (b : Bool) (same : j ≡ k) (old : InRuns m view (λ w. CountIs up k w)) (one : InRuns m view (λ w. b ≡ is_up_in w j)) where
-    pub count_one : b ≡ true → InRuns m view (λ w. CountIs (up + 1) (k + 1) w)
-    count_one is past w r = let e = count_up (is_up_in w) k (ap (is_up_in w) (sym same) ∙ (sym (one past w r) ∙ is)) in omega (arith, e, old past w r)
+    pub count_none_here : b ≡ false → Ever d view (λ w. CountIs up (k + 1) w)
+    count_none_here is past w r = let e = count_down (is_up_in (d.log w)) k (ap (is_up_in (d.log w)) (sym same) ∙ (sym (one past w r) ∙ is)) in omega (arith, e, old past w r)
 
-    pub count_none_here : b ≡ false → InRuns m view (λ w. CountIs up (k + 1) w)
-    count_none_here is past w r = let e = count_down (is_up_in w) k (ap (is_up_in w) (sym same) ∙ (sym (one past w r) ∙ is)) in omega (arith, e, old past w r)
+  pub quorum_told : (all up : ℕ) → all ≡ d.size view → Ever d view (λ w. CountIs up all w) → all < 2 * up → QuorumIsUp d view
+  quorum_told all up e c less past w r = quorum_is (d.size view) all up (is_up_in (d.log w)) e (c past w r) less
 
-  pub quorum_told : (all up : ℕ) → all ≡ length view.servers → InRuns m view (λ w. CountIs up all w) → all < 2 * up → HasQuorum m view
-  quorum_told all up e c less past w r = quorum_is (length view.servers) all up (is_up_in w) e (c past w r) less
+  pub quorum_lacks : (all up : ℕ) → all ≡ d.size view → Ever d view (λ w. CountIs up all w) → (all < 2 * up → ⊥) → QuorumLacks d view
+  quorum_lacks all up e c not past w r = quorum_is_not (d.size view) all up (is_up_in (d.log w)) e (c past w r) not
 
-  pub quorum_lacks : (all up : ℕ) → all ≡ length view.servers → InRuns m view (λ w. CountIs up all w) → (all < 2 * up → ⊥) → LacksQuorum m view
-  quorum_lacks all up e c not past w r = quorum_is_not (length view.servers) all up (is_up_in w) e (c past w r) not
-
-  pub quorum_match : (all up : ℕ) → all ≡ length view.servers → InRuns m view (λ w. CountIs up all w) → MatchBool (nat_lt all (2 * up)) (HasQuorum m view) (LacksQuorum m view)
+  pub quorum_match : (all up : ℕ) → all ≡ d.size view → Ever d view (λ w. CountIs up all w) → MatchBool (nat_lt all (2 * up)) (QuorumIsUp d view) (QuorumLacks d view)
   quorum_match all up e c = elim (bool_cases (nat_lt all (2 * up))) [
     | inl b ↦ rw b (quorum_told all up e c (ltb-true all (2 * up) b))
     | inr b ↦ rw b (quorum_lacks all up e c (λ less. omega (arith, less, ltb-false all (2 * up) b)))
@@ -111,101 +138,75 @@ module _ {S C : Type 0} (m : Meaning S C) (view : WorldView S C) where
 
   -- ---- room
 
-  abbrev pub Roomy : Raft C → Type 0
-  Roomy s = (s.term + 2 ≤ MAX) × (length s.log + 2 ≤ MAX)
+  pub room_told : (k : ℕ) → d.size view ≤ k → Ever d view (λ w. UpAre Roomy k w) → RoomIsThere d view
+  room_told k all old past w r j s less up at = old past w r j s (omega (arith, less, all)) at (up_is (d.log w) j s at up)
 
-  -- it has room, if it is up
-  abbrev pub Takes : Raft C → Type 0
-  Takes s = is_up s.mode ≡ true → Roomy s
-
-  pub full_read : (k : ℕ) (h : RaftView S C) → slice_get view.servers k ≡ Some h → (b : Bool) → ((s : Raft C) → Represents m h s → MatchBool b ((is_up s.mode ≡ true) × (Roomy s → ⊥)) (Takes s)) →
-      MatchBool b (InRuns m view (λ w. IsFull k w)) (InRuns m view (λ w. HasPlace k w))
-  full_read k h here true says = λ past w r. let z = read m view k h (λ s. (is_up s.mode ≡ true) × (Roomy s → ⊥)) here says past w r in (z.0, z.1, z.2.0, z.2.1)
-  full_read k h here false says = read_each m view k h Takes here says
-
-  pub older_read : (j k : ℕ) (a b : RaftView S C) → slice_get view.servers j ≡ Some a → slice_get view.servers k ≡ Some b → (older : Bool) → ((s t : Raft C) → Represents m a s → Represents m b t → older ≡ is_older_log s.log t.log) → InRuns m view (λ w. IsOlder j k older w)
-  older_read j k a b one two older says past w r s t at there2 =
-      says s t (read_each m view j a (λ q. Represents m a q) one (λ q z. z) past w r s at) (read_each m view k b (λ q. Represents m b q) two (λ q z. z) past w r t there2)
-
-  pub room_told : (k : ℕ) → length view.servers ≤ k → InRuns m view (λ w. UpAre m view Roomy k w) → UpHaveRoom m view
-  room_told k all old past w r j s less up at = old past w r j s (omega (arith, less, all)) at (up_is w j s at up)
-
-  pub room_lacks : (j : ℕ) → InRuns m view (λ w. IsFull j w) → UpLackRoom m view
+  pub room_lacks : (j : ℕ) → Ever d view (λ w. IsFull j w) → RoomLacks d view
   room_lacks j full past w r room =
       let f = full past w r in
-      let st = r.represents in
-      f.3 (room j f.0 (omega (arith, get-within w.servers j f.0 f.1, zip_length (Represents m) view.servers w.servers st.servers)) (is_up_at w j f.0 f.1 f.2) f.1)
+      f.3 (room j f.0 (omega (arith, get-within (let x = d.log w in x.servers) j f.0 f.1, count_there m d dl view past w r)) (is_up_at (d.log w) j f.0 f.1 f.2) f.1)
 
   -- ---- the best log
 
-  pub record BestSoFar (b k : ℕ) (w : World C) : Type 0 where
-    pub less : b < length view.servers
-    pub up : is_up_in w b ≡ true
-    pub below : (j : ℕ) (s z : Raft C) → j < k → is_up_in w j ≡ true → slice_get w.servers j ≡ Some s → slice_get w.servers b ≡ Some z → NoOlder s.log z.log
-
-  abbrev pub BestBelow : Option ℕ → ℕ → World C → Type 0
-  BestBelow None k w = (j : ℕ) → j < k → is_up_in w j ≡ false
-  BestBelow (Some b) k w = BestSoFar b k w
-
-  pub best_start : InRuns m view (λ w. BestBelow None 0 w)
+  pub best_start : Ever d view (λ w. BestBelow (d.size view) None 0 w)
   best_start past w r j less = absurd (omega (arith, less))
 
-  module _ (k next : ℕ) (same : next ≡ k) (less_next : next < length view.servers) (past : List (World C)) (w : World C) (r : RunsTo m view past w) where
+  module _ (k next : ℕ) (same : next ≡ k) (less_next : next < d.size view) (past : List d.Moment) (w : d.Moment) (r : d.Runs view past w) where
     -- the next one is the best
-    next_best : is_up_in w next ≡ true → ((j : ℕ) (s z : Raft C) → j < k → is_up_in w j ≡ true → slice_get w.servers j ≡ Some s → slice_get w.servers next ≡ Some z → NoOlder s.log z.log) → BestSoFar next (k + 1) w
+    next_best : is_up_in (d.log w) next ≡ true → ((j : ℕ) (s z : Raft C) → j < k → is_up_in (d.log w) j ≡ true → slice_get (let x = d.log w in x.servers) j ≡ Some s → slice_get (let x = d.log w in x.servers) next ≡ Some z → NoOlder s.log z.log) → BestSoFar (d.size view) next (k + 1) (d.log w)
     next_best up f = record {
       less = less_next;
       up = up;
       below = λ j s z lo upj at there. elim (leb_tells (suc j) k) [
         | inl e ↦ f j s z e.1 upj at there
-        | inr e ↦ let is : j ≡ next = omega (arith, lo, e.1, same) in subst (λ (q : Raft C). NoOlder s.log q.log) (same_Some s z (sym at ∙ (ap (slice_get w.servers) is ∙ there))) (older_self s.log)
+        | inr e ↦ let is : j ≡ next = omega (arith, lo, e.1, same) in subst (λ (q : Raft C). NoOlder s.log q.log) (same_Some s z (sym at ∙ (ap (slice_get (let x = d.log w in x.servers)) is ∙ there))) (older_self s.log)
       ];
     }
 
     -- the old one stays
-    old_best : (b : ℕ) → BestSoFar b k w → ((s z : Raft C) → is_up_in w next ≡ true → slice_get w.servers next ≡ Some s → slice_get w.servers b ≡ Some z → NoOlder s.log z.log) → BestSoFar b (k + 1) w
+    old_best : (b : ℕ) → BestSoFar (d.size view) b k (d.log w) → ((s z : Raft C) → is_up_in (d.log w) next ≡ true → slice_get (let x = d.log w in x.servers) next ≡ Some s → slice_get (let x = d.log w in x.servers) b ≡ Some z → NoOlder s.log z.log) → BestSoFar (d.size view) b (k + 1) (d.log w)
     old_best b a f = record {
       less = a.less;
       up = a.up;
       below = λ j s z lo upj at there. elim (leb_tells (suc j) k) [
         | inl e ↦ a.below j s z e.1 upj at there
-        | inr e ↦ let is : next ≡ j = omega (arith, lo, e.1, same) in f s z (ap (is_up_in w) is ∙ upj) (ap (slice_get w.servers) is ∙ at) there
+        | inr e ↦ let is : next ≡ j = omega (arith, lo, e.1, same) in f s z (ap (is_up_in (d.log w)) is ∙ upj) (ap (slice_get (let x = d.log w in x.servers)) is ∙ at) there
       ];
     }
 
-    best_next : (b after : Option ℕ) → BestBelow b k w → IsBetter b next after w → BestBelow after (k + 1) w
+    best_next : (b after : Option ℕ) → BestBelow (d.size view) b k (d.log w) → IsBetter b next after (d.log w) → BestBelow (d.size view) after (k + 1) (d.log w)
     best_next None None old h = λ j lo. elim (leb_tells (suc j) k) [
       | inl e ↦ old j e.1
-      | inr e ↦ let is : j ≡ next = omega (arith, lo, e.1, same) in ap (is_up_in w) is ∙ h
+      | inr e ↦ let is : j ≡ next = omega (arith, lo, e.1, same) in ap (is_up_in (d.log w)) is ∙ h
     ]
-    best_next None (Some q) old h = subst (λ z. BestSoFar z (k + 1) w) (sym h.0) (next_best h.1 (λ j s z lo up at there. absurd (true≢false (sym up ∙ old j lo))))
+    best_next None (Some q) old h = subst (λ z. BestSoFar (d.size view) z (k + 1) (d.log w)) (sym h.0) (next_best h.1 (λ j s z lo up at there. absurd (true≢false (sym up ∙ old j lo))))
     best_next (Some b) None old h = absurd h
-    best_next (Some b) (Some q) old (inl h) = subst (λ z. BestSoFar z (k + 1) w) (sym h.0) (old_best b old (λ s z up at after. absurd (true≢false (sym up ∙ h.1))))
-    best_next (Some b) (Some q) old (inr h) = subst (λ z. BestSoFar z (k + 1) w) (sym h.3) (by h.1 h.2)
+    best_next (Some b) (Some q) old (inl h) = subst (λ z. BestSoFar (d.size view) z (k + 1) (d.log w)) (sym h.0) (old_best b old (λ s z up at after. absurd (true≢false (sym up ∙ h.1))))
+    best_next (Some b) (Some q) old (inr h) = subst (λ z. BestSoFar (d.size view) z (k + 1) (d.log w)) (sym h.3) (by h.1 h.2)
       where
-        by : (older : Bool) → IsOlder b next older w → BestSoFar (if older then next else b) (k + 1) w
+        by : (older : Bool) → IsOlder b next older (d.log w) → BestSoFar (d.size view) (if older then next else b) (k + 1) (d.log w)
         by true is = next_best h.0 (λ j s z lo up at after.
-            let t = there m view b old.less past w r in
+            let t = there m d dl view b old.less past w r in
             older_trans s.log (t.0).log z.log (old.below j s t.0 lo up at t.1) (older_true (t.0).log z.log (sym (is t.0 z t.1 after))))
         by false is = old_best b old (λ s z up at after. older_false z.log s.log (sym (is z s after at)))
 
-  pub best_more : (k next : ℕ) → next ≡ k → next < length view.servers → (b after : Option ℕ) → InRuns m view (λ w. BestBelow b k w) → InRuns m view (λ w. IsBetter b next after w) → InRuns m view (λ w. BestBelow after (k + 1) w)
+  pub best_more : (k next : ℕ) → next ≡ k → next < d.size view → (b after : Option ℕ) → Ever d view (λ w. BestBelow (d.size view) b k w) → Ever d view (λ w. IsBetter b next after w) → Ever d view (λ w. BestBelow (d.size view) after (k + 1) w)
   best_more k next same less b after old one past w r = best_next k next same less past w r b after (old past w r) (one past w r)
 
-  pub best_all : (b k : ℕ) → length view.servers ≤ k → InRuns m view (λ w. BestBelow (Some b) k w) → InRuns m view (λ w. IsBest (length view.servers) b w)
+  pub best_all : (b k : ℕ) → d.size view ≤ k → Ever d view (λ w. BestBelow (d.size view) (Some b) k w) → Ever d view (λ w. IsBest (d.size view) b w)
   best_all b k all old past w r =
       let a = old past w r in
       record { less = a.less; up = a.up; best = λ j s me less up at there. a.below j s me (omega (arith, less, all)) up at there }
 
   -- somebody is up
-  pub best_some : (k : ℕ) → length view.servers ≤ k → Known m view (λ w. Quorum (length view.servers) (is_up_in w)) → InRuns m view (λ w. BestBelow None k w) → ⊥
-  best_some k all q old = no_quorum (length view.servers) (is_up_in q.world) (q.ever q.past q.world q.runs) (λ j less up. true≢false (sym up ∙ old q.past q.world q.runs j (omega (arith, less, all))))
+  pub best_some : (k : ℕ) → d.size view ≤ k → Known d view (λ w. Quorum (d.size view) (is_up_in w)) → Ever d view (λ w. BestBelow (d.size view) None k w) → ⊥
+  best_some k all q old = no_quorum (d.size view) (is_up_in (d.log q.moment)) (q.ever q.past q.moment q.runs) (λ j less up. true≢false (sym up ∙ old q.past q.moment q.runs j (omega (arith, less, all))))
 
   -- and so the best may be let stand
-  pub chosen : (who : ℕ) → (past : List (World C)) (w : World C) → RunsTo m view past w → HasQuorum m view → UpHaveRoom m view → InRuns m view (λ w. IsBest (length view.servers) who w) → Known m view (λ w. Chosen (length view.servers) who w)
-  chosen who past w r quorum room best = record {
-    past = past;
-    world = w;
-    runs = r;
+  pub chosen : (who : ℕ) → HasRun d view → QuorumIsUp d view → RoomIsThere d view → Ever d view (λ w. IsBest (d.size view) who w) → Known d view (λ w. Chosen (d.size view) who w)
+  chosen who run quorum room best = record {
+    past = run.past;
+    moment = run.moment;
+    runs = run.runs;
     ever = λ p v q. let b = best p v q in record { less = b.less; up = b.up; quorum = quorum p v q; best = b.best; room = room p v q };
   }

@@ -1,3 +1,5 @@
 -- Words of private contracts.
 pub mod Spreads
+pub mod Drives
 pub mod Goings
+pub mod Kinds

@@ -1,3 +1,4 @@
 pub mod Runs
 pub mod Settling
+pub mod GroupSettling
 pub mod Inner

@@ -1,13 +1,14 @@
 //! A group is settled.
 ghost use Rattle.std.specs.Prelude.{IfOk, IfErr};
 ghost use Rattle.recovery.specs.Settling.{IsSettled, WhyUnsettled};
+ghost use Rattle.recovery.specs.GroupSettling.{IsGroupSettled, WhyGroupUnsettled};
 
-use crate::choosing::{best, has_quorum, has_room};
-use crate::rounds::settle_at;
+use crate::settling::settle_driven;
 use crate::unsettled::Unsettled;
 use machine::Machine;
 use rows::ServerId;
-use world::RaftWorld;
+use std::alloc::Global;
+use world::{RaftWorld, World};
 
 /// Settles a group of the log: the server with the best log among those that are up is let stand
 /// where it does not lead, or is behind in term, and then it beats until each server that is up has
@@ -22,19 +23,21 @@ pub fn settle<M: Machine>(world: &mut RaftWorld<M>) -> Result<ServerId, Unsettle
     ensures ok { IfOk result (λ who. IsSettled M.meaning world.old world.new who) }
     ensures err { IfErr result (λ why. WhyUnsettled M.meaning world.old world.new why) }
 {
-    // That the world has a run is known by what it claims.
-    world.one_leader();
-    if !has_quorum(world) {
-        return Err(Unsettled::NoQuorum);
-    }
-    if !has_room(world) {
-        return Err(Unsettled::Exhausted);
-    }
-    match best(world) {
-        Ok(who) => match settle_at(world, who) {
-            Ok(()) => Ok(who),
-            Err(why) => Err(why),
-        },
-        Err(why) => Err(why),
-    }
+    settle_driven(&(), world)
+}
+
+/// Settles a whole group, as `settle` does servers of the log alone: by timeouts and beats of one
+/// server, and deliveries of the log's messages that are sent meanwhile. Clients, workers and what
+/// was sent before play no part, and what came for workers stays. The server that is answered
+/// leads, and its desk is open. (Raft, sections 5.2 to 5.4; Nomad documentation, "Scheduling in
+/// Nomad".)
+///
+/// It is refused as `settle` is.
+pub fn settle_group(alloc: Global, world: &mut World) -> Result<ServerId, Unsettled>
+    ensures ok { IfOk result (λ who. IsGroupSettled world.old world.new who) }
+    ensures err { IfErr result (λ why. WhyGroupUnsettled world.old world.new why) }
+{
+    // Its nodes are known to be within their limits by what they are looked at.
+    let _nodes = world.clients();
+    settle_driven(&alloc, world)
 }

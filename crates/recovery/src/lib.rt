@@ -1,15 +1,20 @@
-//! A group of the log that settles: one server comes to lead, and the others that are up come to
-//! follow it.
+//! A group whose servers need recovery is settled by a call: servers of the log alone, or a whole
+//! group.
 #![tactic(auto)]
 
 mod calls;
+mod calm_event;
 mod choosing;
+mod driven;
 mod events;
+mod group_driven;
+mod log_driven;
 mod reading;
 mod rounds;
+mod settling;
 #[cfg(test)]
 mod tests;
 mod unsettled;
 
-pub use calls::settle;
+pub use calls::{settle, settle_group};
 pub use unsettled::Unsettled;

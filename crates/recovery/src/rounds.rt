@@ -1,34 +1,32 @@
 //! Rounds, by which one server comes to lead and all others to follow it.
-ghost use Rattle.std.specs.Prelude.{◌≡◌, ◌<◌, length, OnOk, IfErr};
+ghost use Rattle.std.specs.Prelude.{◌≡◌, ◌<◌, ◌⊎◌, OnOk, IfOk, IfErr};
 ghost use Rattle.recovery.specs.Runs.{Settles};
-ghost use Rattle.recovery.specs.Settling.{Goes};
 ghost use Rattle.recovery.specs.Inner.Spreads.{Ready, Risen, Chosen, CanHear, SpreadDone, LedDone, Leading, AppliedDone, seat};
-ghost use Rattle.recovery.specs.Inner.Goings.{Known, Stops};
+ghost use Rattle.recovery.specs.Inner.Drives.{Known, Went, Stops};
 
+use crate::driven::Driven;
 use crate::events::{act, exchange, swap};
-use crate::reading::{highest, is_applied, is_behind, last_of, leads, sent_count, size};
+use crate::reading::{highest, is_applied, is_behind, last_of, leads};
 use crate::unsettled::Unsettled;
-use machine::Machine;
 use rows::ServerId;
-use world::RaftWorld;
 
 /// One round: the server beats, if it leads, and else it stands; and each other server that is up
 /// gets what it sent, and answers.
-fn spread<M: Machine>(world: &mut RaftWorld<M>, who: ServerId) -> Result<(), Unsettled>
-    requires { Known M.meaning world.old (λ w. Ready (length world.old.servers) who w) }
-    ensures ok { OnOk result (Goes M.meaning world.old world.new (λ taken w v.
-        SpreadDone M.meaning (length world.old.servers) who taken w v)) }
-    ensures err { IfErr result (λ why. Stops M.meaning who world.old world.new why) }
+fn spread<D: Driven>(with: &D::With, world: &mut D, who: ServerId) -> Result<(), Unsettled>
+    requires { Known D.drive world.old (λ w. Ready (D.drive.size world.old) who w) }
+    ensures ok { OnOk result (Went D.drive world.old world.new (λ taken w v.
+        SpreadDone D.Of.meaning (D.drive.size world.old) who taken w v)) }
+    ensures err { IfErr result (λ why. Stops D.drive D.Of.meaning who world.old world.new why) }
 {
-    world.group_size();
-    let first = sent_count(world);
-    match act(world, who) {
+    world.has_run();
+    let first = world.sent_count();
+    match act(with, world, who) {
         Ok(()) => {}
         Err(why) => return Err(why),
     }
-    let end = sent_count(world);
+    let end = world.sent_count();
     for place in first..end {
-        match swap(world, who, place) {
+        match swap(with, world, who, place) {
             Ok(()) => {}
             Err(why) => return Err(why),
         }
@@ -49,73 +47,77 @@ fn seat(who: ServerId, server: ServerId) -> usize
 }
 
 /// The server beats or stands, and hears of the term of `ahead`, which is ahead of it.
-fn hear<M: Machine>(
-    world: &mut RaftWorld<M>,
+fn hear<D: Driven>(
+    with: &D::With,
+    world: &mut D,
     who: ServerId,
     ahead: ServerId,
 ) -> Result<(), Unsettled>
-    requires { Known M.meaning world.old (λ w. CanHear (length world.old.servers) who ahead w) }
-    ensures ok { OnOk result (Goes M.meaning world.old world.new (λ taken w v.
-        Risen M.meaning (length world.old.servers) who w taken v)) }
-    ensures err { IfErr result (λ why. Stops M.meaning who world.old world.new why) }
+    requires { Known D.drive world.old (λ w. CanHear (D.drive.size world.old) who ahead w) }
+    ensures ok { OnOk result (Went D.drive world.old world.new (λ taken w v.
+        Risen D.Of.meaning (D.drive.size world.old) who w taken v)) }
+    ensures err { IfErr result (λ why. Stops D.drive D.Of.meaning who world.old world.new why) }
 {
-    let first = sent_count(world);
-    match act(world, who) {
+    world.has_run();
+    let first = world.sent_count();
+    match act(with, world, who) {
         Ok(()) => {}
         Err(why) => return Err(why),
     }
     if !is_behind(world, who, ahead) {
         return Ok(());
     }
-    let _end = sent_count(world);
+    let _end = world.sent_count();
     let place = first + seat(who, ahead);
-    exchange(world, who, place, ahead)
+    exchange(with, world, who, place, ahead)
 }
 
 /// It comes to where no server that is up is in a later term.
-fn rise<M: Machine>(world: &mut RaftWorld<M>, who: ServerId) -> Result<(), Unsettled>
-    requires { Known M.meaning world.old (λ w. Chosen (length world.old.servers) who w) }
-    ensures ok { OnOk result (Goes M.meaning world.old world.new (λ taken w v.
-        Risen M.meaning (length world.old.servers) who w taken v)) }
-    ensures err { IfErr result (λ why. Stops M.meaning who world.old world.new why) }
+fn rise<D: Driven>(with: &D::With, world: &mut D, who: ServerId) -> Result<(), Unsettled>
+    requires { Known D.drive world.old (λ w. Chosen (D.drive.size world.old) who w) }
+    ensures ok { OnOk result (Went D.drive world.old world.new (λ taken w v.
+        Risen D.Of.meaning (D.drive.size world.old) who w taken v)) }
+    ensures err { IfErr result (λ why. Stops D.drive D.Of.meaning who world.old world.new why) }
 {
+    world.has_run();
     let ahead = highest(world, who);
     if is_behind(world, who, ahead) {
-        hear(world, who, ahead)
+        hear(with, world, who, ahead)
     } else {
         Ok(())
     }
 }
 
 /// It comes to lead.
-fn lead<M: Machine>(world: &mut RaftWorld<M>, who: ServerId) -> Result<(), Unsettled>
-    requires { Known M.meaning world.old (λ w. Ready (length world.old.servers) who w) }
-    ensures ok { OnOk result (Goes M.meaning world.old world.new (λ taken w v.
-        LedDone M.meaning (length world.old.servers) who taken w v)) }
-    ensures err { IfErr result (λ why. Stops M.meaning who world.old world.new why) }
+fn lead<D: Driven>(with: &D::With, world: &mut D, who: ServerId) -> Result<(), Unsettled>
+    requires { Known D.drive world.old (λ w. Ready (D.drive.size world.old) who w) }
+    ensures ok { OnOk result (Went D.drive world.old world.new (λ taken w v.
+        LedDone D.Of.meaning (D.drive.size world.old) who taken w v)) }
+    ensures err { IfErr result (λ why. Stops D.drive D.Of.meaning who world.old world.new why) }
 {
+    world.has_run();
     if leads(world, who) {
         Ok(())
     } else {
-        spread(world, who)
+        spread(with, world, who)
     }
 }
 
 /// It leads until each server that is up has applied its whole log. So many rounds are always
 /// enough.
-fn confirm<M: Machine>(world: &mut RaftWorld<M>, who: ServerId) -> Result<(), Unsettled>
-    requires { Known M.meaning world.old (λ w. Leading (length world.old.servers) who w) }
-    ensures ok { OnOk result (Goes M.meaning world.old world.new (λ taken w v.
-        AppliedDone M.meaning who taken w v)) }
-    ensures err { IfErr result (λ why. Stops M.meaning who world.old world.new why) }
+fn confirm<D: Driven>(with: &D::With, world: &mut D, who: ServerId) -> Result<(), Unsettled>
+    requires { Known D.drive world.old (λ w. Leading (D.drive.size world.old) who w) }
+    ensures ok { OnOk result (Went D.drive world.old world.new (λ taken w v.
+        AppliedDone D.Of.meaning who taken w v)) }
+    ensures err { IfErr result (λ why. Stops D.drive D.Of.meaning who world.old world.new why) }
 {
-    world.group_size();
+    world.has_run();
     let enough = 2 * last_of(world, who) + 2;
     for round in 0..enough {
         if is_applied(world, who) {
             return Ok(());
         }
-        match spread(world, who) {
+        match spread(with, world, who) {
             Ok(()) => {}
             Err(why) => return Err(why),
         }
@@ -124,23 +126,24 @@ fn confirm<M: Machine>(world: &mut RaftWorld<M>, who: ServerId) -> Result<(), Un
 }
 
 /// A server of the best log settles the group.
-pub(crate) fn settle_at<M: Machine>(
-    world: &mut RaftWorld<M>,
+pub(crate) fn settle_at<D: Driven>(
+    with: &D::With,
+    world: &mut D,
     who: ServerId,
 ) -> Result<(), Unsettled>
-    requires { Known M.meaning world.old (λ w. Chosen (length world.old.servers) who w) }
-    ensures ok { OnOk result (Goes M.meaning world.old world.new (λ taken w v.
-        Settles M.meaning (length world.old.servers) who taken w v)) }
-    ensures err { IfErr result (λ why. Stops M.meaning who world.old world.new why) }
+    requires { Known D.drive world.old (λ w. Chosen (D.drive.size world.old) who w) }
+    ensures ok { OnOk result (Went D.drive world.old world.new (λ taken w v.
+        Settles D.Of.meaning (D.drive.size world.old) who taken w v)) }
+    ensures err { IfErr result (λ why. Stops D.drive D.Of.meaning who world.old world.new why) }
 {
-    world.group_size();
-    match rise(world, who) {
+    world.has_run();
+    match rise(with, world, who) {
         Ok(()) => {}
         Err(why) => return Err(why),
     }
-    match lead(world, who) {
+    match lead(with, world, who) {
         Ok(()) => {}
         Err(why) => return Err(why),
     }
-    confirm(world, who)
+    confirm(with, world, who)
 }

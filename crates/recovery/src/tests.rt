@@ -1,12 +1,15 @@
 //! Five servers with a tally, settled four times: before their first event; with forty entries that
 //! only the leader has, where another that stood thrice is ahead in term and one is down; after the
-//! leader has compacted its log and crashed; and with three down.
-use crate::calls::settle;
+//! leader has compacted its log and crashed; and with three down. And a group of three, settled
+//! three times: before its first event; with its leader down, to whom a worker's plan is under way;
+//! and with that server back.
+use crate::calls::{settle, settle_group};
 use crate::unsettled::Unsettled;
+use group_inputs::{Event, ServerInput};
 use machine::{Tally, TallyCommand};
-use rows::ServerId;
+use rows::{Batch, EntryIndex, EvalId, Index, LeaderTerm, Name, Plan, Serial, ServerId, Token};
 use std::alloc::Global;
-use world::{RaftEvent, RaftWorld};
+use world::{RaftEvent, RaftWorld, World};
 
 /// Whether the server leads, and each that is up has applied as many entries as its log has.
 fn is_settled(world: &RaftWorld<Tally>, who: ServerId) -> bool {
@@ -79,4 +82,94 @@ fn a_group_settles(rt: HostRuntime) {
     assert!(rt; world.step(RaftEvent::Crash(next)).is_ok());
     assert!(rt; world.step(RaftEvent::Crash(away)).is_ok());
     assert!(rt; settle(&mut world) == Err(Unsettled::NoQuorum));
+}
+
+/// Whether the server leads with an open desk, and each that is up has applied as many entries as
+/// its log has.
+fn is_group_settled(world: &World, who: ServerId) -> bool {
+    let Some(leader) = world.server(who) else {
+        return false;
+    };
+    if leader.raft().leader_term().is_none() || !leader.desk().is_open() {
+        return false;
+    }
+    let last = leader.last();
+    for position in 0..3 {
+        if let Some(id) = ServerId::from_position(position)
+            && let Some(server) = world.server(id)
+            && let Some(applied) = server.applied()
+            && applied != last
+        {
+            return false;
+        }
+    }
+    true
+}
+
+/// The number of the server that leads once the group is settled, if it is.
+fn settled_group(alloc: Global, world: &mut World) -> Option<u8> {
+    match settle_group(alloc, world) {
+        Ok(who) if is_group_settled(world, who) => Some(who.number()),
+        _ => None,
+    }
+}
+
+/// A plan of nothing, for an evaluation that nobody has.
+fn plan(alloc: Global) -> Option<Plan> {
+    Some(Plan {
+        eval: EvalId {
+            index: EntryIndex::new(2)?,
+            slot: 0,
+        },
+        token: Token {
+            term: LeaderTerm::new(1)?,
+            serial: Serial::new(1)?,
+        },
+        job: Name::from_bytes(b"web")?,
+        version: Index::ZERO,
+        snapshot: Index::ZERO,
+        stops: Batch::new(alloc),
+        places: Batch::new(alloc),
+    })
+}
+
+/// Whether a server of the group takes this input.
+fn takes(alloc: Global, world: &mut World, number: u8, input: ServerInput) -> bool {
+    let Some(server) = ServerId::from_number(number) else {
+        return false;
+    };
+    match Event::server(alloc, server, input) {
+        Ok(event) => world.step(event).is_ok(),
+        Err(_) => false,
+    }
+}
+
+#[test]
+fn a_whole_group_settles(rt: HostRuntime) {
+    let alloc = rt.alloc();
+    let Ok(mut world) = World::new(alloc, 3, &[]) else {
+        panic!(rt; "there is no group");
+    };
+    assert!(rt; settled_group(alloc, &mut world) == Some(1));
+    // A timeout and two beats, with two deliveries for each of two servers.
+    assert!(rt; world.trace().len() == 15, "{} events", world.trace().len());
+    let (Some(plan), Some(leader)) = (plan(alloc), ServerId::from_number(1)) else {
+        panic!(rt; "there is no plan");
+    };
+    assert!(rt; takes(alloc, &mut world, 3, ServerInput::Submit(leader, plan)));
+    let under_way = world.sent().len() as u64;
+    assert!(rt; takes(alloc, &mut world, 1, ServerInput::Crash));
+    assert!(rt; settled_group(alloc, &mut world) == Some(2));
+    // The plan and the crash; then a timeout and two beats, with two deliveries for server 3.
+    assert!(rt; world.trace().len() == 26, "{} events", world.trace().len());
+    assert!(rt; takes(alloc, &mut world, 1, ServerInput::Restart));
+    assert!(rt; settled_group(alloc, &mut world) == Some(2));
+    // The restart; then a beat, with two deliveries for each of two servers: server 1 has all but
+    // the last entry, and hears with that how much is committed.
+    assert!(rt; world.trace().len() == 32, "{} events", world.trace().len());
+    // The plan is still under way.
+    assert!(rt; world.step(Event::Deliver(under_way)).is_ok());
+    assert!(rt; takes(alloc, &mut world, 1, ServerInput::Crash));
+    assert!(rt; takes(alloc, &mut world, 3, ServerInput::Crash));
+    assert!(rt; settle_group(alloc, &mut world) == Err(Unsettled::NoQuorum));
 }

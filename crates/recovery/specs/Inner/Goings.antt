@@ -1,50 +1,53 @@
--- Parts of a value's run, as contracts of private functions say them.
+-- What is read off a value's log, and what becomes of the whole.
 use Rattle.std.specs.Prelude.{◌≡◌, ℕ, ◌+◌, ◌⊎◌, ◌<◌, ◌≤◌, Bool, true, false, ◌||◌, ◌&&◌, ◌==◌, nat_lt, if◌then◌else◌, Option, Some, None, List, length, slice_get}
 use Rattle.machine_model.specs.Meaning.{Meaning}
 use Rattle.machine_model.specs.declared.entry.Entry.{Entry}
 use Rattle.raft_model.specs.Logs.{MAX, last_term}
 use Rattle.raft_model.specs.Messages.{Message}
+use Rattle.raft_model.specs.Quorums.{Quorum}
 use Rattle.raft_model.specs.Rafts.{Raft, is_up, is_leader}
-use Rattle.raft_model.specs.Worlds.{World, Event, Deliver}
-use Rattle.world.specs.WorldView.{WorldView, RunsTo}
-use Rattle.world.specs.Steps.{EventHappened, ActorCrashed, SameWorld}
+use Rattle.raft_model.specs.Worlds.{World}
+use Rattle.raft_progress.specs.Recovery.{HasRoom}
 use Rattle.recovery.specs.declared.unsettled.Unsettled.{Unsettled}
-use Rattle.recovery.specs.declared.unsettled.Unsettled.TheVariants.{NoQuorum, Exhausted, NoMemory, Crashed}
-use Rattle.recovery.specs.Runs.{is_up_in}
-use Rattle.recovery.specs.Settling.{Goes, Fell, InRuns}
-use Rattle.recovery.specs.Inner.Spreads.{Came, IsBehind}
+use Rattle.recovery.specs.declared.unsettled.Unsettled.TheVariants.{NoQuorum, Exhausted}
+use Rattle.recovery.specs.Runs.{is_up_in, Settles}
+use Rattle.recovery.specs.Inner.Spreads.{IsBehind}
+use Rattle.recovery.specs.Inner.Drives.{Drive, Ever, Went, Stops}
 
-module _ {S C : Type 0} (m : Meaning S C) where
-  -- the value has a run, and P holds of where its runs lead
-  pub record Known (view : WorldView S C) (P : World C → Type 0) : Type 0 where
-    pub past : List (World C)
-    pub world : World C
-    pub runs : RunsTo m view past world
-    pub ever : InRuns m view P
+module _ {V S C : Type 0} (d : Drive V S C) where
+  -- a quorum is up, or not
+  abbrev pub QuorumIsUp : V → Type 0
+  QuorumIsUp view = Ever d view (λ w. Quorum (d.size view) (is_up_in w))
 
-  -- memory was wanting for an event
-  abbrev pub NotTaken : WorldView S C → Event C → WorldView S C → Unsettled → Type 0
-  NotTaken old e new NoQuorum = ⊥
-  NotTaken old e new Exhausted = ⊥
-  NotTaken old e new NoMemory = SameWorld old new
-  NotTaken old e new (Crashed k) = (crashed : ActorCrashed m old e new) × (crashed.who ≡ k)
+  abbrev pub QuorumLacks : V → Type 0
+  QuorumLacks view = Ever d view (λ w. Quorum (d.size view) (is_up_in w) → ⊥)
 
-  -- so it was for the delivery at this place, or for that of the answer
-  abbrev pub SwapStops : ℕ → WorldView S C → WorldView S C → Unsettled → Type 0
-  SwapStops place old new why = NotTaken old (Deliver place) new why
-      ⊎ ((mid : WorldView S C) × EventHappened m old (Deliver place) mid × NotTaken mid (Deliver (length old.sent)) new why)
+  -- whoever is up has room for two more terms and entries, or not
+  abbrev pub RoomIsThere : V → Type 0
+  RoomIsThere view = Ever d view (λ w. HasRoom (d.size view) (is_up_in w) w)
 
-  -- it came so far by timeouts and beats of server i and deliveries, and then a server crashed
-  pub record FellBy (i k : ℕ) (taken : List (Event C)) (w v : World C) : Type 0 where
-    pub fell : Fell m k taken w v
-    pub mine : let b = fell.began in b.who ≡ i
+  abbrev pub RoomLacks : V → Type 0
+  RoomLacks view = Ever d view (λ w. HasRoom (d.size view) (is_up_in w) w → ⊥)
 
-  -- memory was wanting on the way
-  abbrev pub Stops : ℕ → WorldView S C → WorldView S C → Unsettled → Type 0
-  Stops i old new NoQuorum = ⊥
-  Stops i old new Exhausted = ⊥
-  Stops i old new NoMemory = Goes m old new (λ taken w v. Came m i taken w v)
-  Stops i old new (Crashed k) = Goes m old new (λ taken w v. FellBy i k taken w v)
+  module _ (m : Meaning S C) where
+    -- the value is settled by server `who`
+    pub record DriveSettled (old new : V) (who : ℕ) : Type 0 where
+      pub quorum : QuorumIsUp old
+      pub room : RoomIsThere old
+      pub went : Went d old new (λ taken w v. Settles m (d.size old) who taken w v)
+
+    -- by server `who`, memory was wanting on the way
+    pub record Halted (old new : V) (why : Unsettled) : Type 0 where
+      pub quorum : QuorumIsUp old
+      pub room : RoomIsThere old
+      pub who : ℕ
+      pub stops : Stops d m who old new why
+
+    -- why it is not
+    abbrev pub WhyDriveUnsettled : V → V → Unsettled → Type 0
+    WhyDriveUnsettled old new NoQuorum = QuorumLacks old × (new ≡ old)
+    WhyDriveUnsettled old new Exhausted = QuorumIsUp old × RoomLacks old × (new ≡ old)
+    WhyDriveUnsettled old new why = Halted old new why
 
 -- ---- what is read
 
@@ -63,6 +66,10 @@ ForServer {C} place k w = (z : Message C) → slice_get w.sent place ≡ Some z 
 -- it is for none that is up
 abbrev pub ForNobody : {C : Type 0} → ℕ → World C → Type 0
 ForNobody {C} place w = (z : Message C) → slice_get w.sent place ≡ Some z → is_up_in w z.to ≡ false
+
+-- whoever is to receive the message at this place, it is this server
+abbrev pub GoesTo : {C : Type 0} → Option ℕ → ℕ → World C → Type 0
+GoesTo {C} to place w = (z : Message C) → slice_get w.sent place ≡ Some z → to ≡ Some z.to
 
 -- a number of server j, if it is there
 abbrev pub IsOf : {C : Type 0} → (Raft C → ℕ) → ℕ → ℕ → World C → Type 0
@@ -89,10 +96,10 @@ is_older_log X Y = nat_lt (last_term X) (last_term Y) || ((last_term X == last_t
 abbrev pub IsOlder : {C : Type 0} → ℕ → ℕ → Bool → World C → Type 0
 IsOlder {C} j k older w = (s t : Raft C) → slice_get w.servers j ≡ Some s → slice_get w.servers k ≡ Some t → older ≡ is_older_log s.log t.log
 
--- one of the group's servers, or none
-abbrev pub IsServerOf : {S C : Type 0} → WorldView S C → Option ℕ → Type 0
-IsServerOf view None = Unit {0}
-IsServerOf view (Some k) = k < length view.servers
+-- one of n servers, or none
+abbrev pub IsServerOf : ℕ → Option ℕ → Type 0
+IsServerOf n None = Unit {0}
+IsServerOf n (Some k) = k < n
 
 -- Of the best so far, if there is one, and a next server, the one that is up and has the newer log.
 abbrev pub IsBetter : {C : Type 0} → Option ℕ → ℕ → Option ℕ → World C → Type 0

@@ -1,6 +1,6 @@
-use Rattle.recovery.specs.Settling.{Goes}
-use Rattle.recovery.specs.Inner.Spreads.{SpreadSoFar}
+use Rattle.recovery.specs.Inner.Drives.{WentOf}
+use Rattle.recovery.proofs.Driving.{SpreadTold}
 use Rattle.recovery.proofs.rounds.spread.Given as goal
 
 abbrev pub invariant-loop-place : goal.invariant-loop-place
-invariant-loop-place g l = Goes g.M.Machine.meaning l.fn.world l.world (λ es w x. SpreadSoFar g.M.Machine.meaning l.who l.place l.end es w x)
+invariant-loop-place g l = WentOf g.D.Driven.drive l.fn.world l.world (λ ts w x. SpreadTold g.D.Of.Machine.meaning g.D.Driven.drive l.who l.place l.end ts w x)
