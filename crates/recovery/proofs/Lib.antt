@@ -9,7 +9,11 @@ pub mod Goings
 pub mod Looks
 pub mod Picks
 pub mod Driving
+pub mod Downs
+pub mod Wakings
 pub mod LogDriving
 pub mod GroupSteps
 pub mod GroupDriving
 pub mod GroupFollows
+pub mod LogWakings
+pub mod GroupWakings

@@ -1,8 +1,9 @@
 //! What the driving asks of a value with servers, whether they are all that it has or not.
 ghost use Rattle.std.specs.Prelude.{◌≡◌, ◌≤◌, ℕ, OnOk, IfErr, IfSome, IfNone};
 ghost use Rattle.rows.specs.GroupSizes.{IsGroup};
-ghost use Rattle.recovery.specs.Inner.Drives.{Drive, LawfulDrive, HasRun, EverOf, EverAt, KnownOf, StandsThere, NoneThere, CanGo, HasGone, WentOf, NotTaken};
+ghost use Rattle.recovery.specs.Inner.Drives.{Drive, LawfulDrive, HasRun, EverOf, EverAt, Known, KnownOf, StandsThere, NoneThere, CanGo, HasGone, WentOf, NotTaken};
 ghost use Rattle.recovery.specs.Inner.Goings.{GoesTo};
+ghost use Rattle.recovery.specs.Inner.Wakings.{Restarting, IsDown, IsBack, StaysAsleep};
 
 use crate::calm_event::CalmEvent;
 use crate::unsettled::Unsettled;
@@ -20,6 +21,9 @@ pub(crate) trait Driven {
 
     /// What its runs are, and what is of the log in them.
     ghost drive: { Drive Self Self.Of Self.Of.Command };
+
+    /// How its servers restart.
+    ghost restarting: { Restarting drive };
 
     /// It has a run, as its type keeps.
     fn has_run(&self)
@@ -56,4 +60,11 @@ pub(crate) trait Driven {
         ensures ok { OnOk result (WentOf drive self.old self.new (λ taken w v.
             HasGone drive event taken w v)) }
         ensures err { IfErr result (λ why. NotTaken drive self.old self.new why) };
+
+    /// A server that is down starts again.
+    fn restart(&mut self, with: &Self::With, server: ServerId) -> Result<(), Unsettled>
+        requires { Known drive self.old (λ w. IsDown server w) }
+        ensures ok { OnOk result (WentOf drive self.old self.new (λ taken w v.
+            IsBack Self.Of.meaning drive restarting server taken w v)) }
+        ensures err { IfErr result (λ why. StaysAsleep drive server self.old self.new why) };
 }

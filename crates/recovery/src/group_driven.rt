@@ -31,8 +31,11 @@ impl Driven for World {
     type With = Global;
 
     ghost use Rattle.recovery.specs.Inner.Kinds.{group_drive};
+    ghost use Rattle.recovery.specs.Inner.Wakings.{group_restarting};
 
     ghost drive = { group_drive };
+
+    ghost restarting = { group_restarting };
 
     fn has_run(&self) {
         self.one_list();
@@ -84,6 +87,22 @@ impl Driven for World {
                 Refusal::NoMemory => Err(Unsettled::NoMemory),
                 _ => unreachable!(),
             },
+        }
+    }
+
+    fn restart(&mut self, with: &Global, who: ServerId) -> Result<(), Unsettled> {
+        match Event::server(*with, who, ServerInput::Restart) {
+            Ok(event) => match self.step(event) {
+                Ok(done) => match done {
+                    Done::Taken => Ok(()),
+                    Done::Crashed => Err(Unsettled::Crashed(who)),
+                },
+                Err(refusal) => match refusal {
+                    Refusal::NoMemory => Err(Unsettled::NoMemory),
+                    _ => unreachable!(),
+                },
+            },
+            Err(_) => Err(Unsettled::NoMemory),
         }
     }
 }

@@ -10,11 +10,14 @@ mod events;
 mod group_driven;
 mod log_driven;
 mod reading;
+mod restarts;
 mod rounds;
 mod settling;
 #[cfg(test)]
 mod tests;
 mod unsettled;
+mod waking;
 
 pub use calls::{settle, settle_group};
+pub use restarts::{settle_all, settle_all_of_group};
 pub use unsettled::Unsettled;

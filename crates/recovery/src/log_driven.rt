@@ -29,8 +29,11 @@ impl<M: Machine> Driven for RaftWorld<M> {
     type With = ();
 
     ghost use Rattle.recovery.specs.Inner.Kinds.{log_drive};
+    ghost use Rattle.recovery.specs.Inner.Wakings.{log_restarting};
 
     ghost drive = { log_drive M.meaning };
+
+    ghost restarting = { log_restarting M.meaning };
 
     fn has_run(&self) {
         self.one_leader();
@@ -70,6 +73,19 @@ impl<M: Machine> Driven for RaftWorld<M> {
             Ok(done) => match done {
                 Done::Taken => Ok(()),
                 Done::Crashed => Err(Unsettled::Crashed(server)),
+            },
+            Err(refusal) => match refusal {
+                Refusal::NoMemory => Err(Unsettled::NoMemory),
+                _ => unreachable!(),
+            },
+        }
+    }
+
+    fn restart(&mut self, _with: &(), who: ServerId) -> Result<(), Unsettled> {
+        match self.step(RaftEvent::Restart(who)) {
+            Ok(done) => match done {
+                Done::Taken => Ok(()),
+                Done::Crashed => Err(Unsettled::Crashed(who)),
             },
             Err(refusal) => match refusal {
                 Refusal::NoMemory => Err(Unsettled::NoMemory),

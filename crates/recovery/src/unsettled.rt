@@ -5,10 +5,10 @@ use rows::ServerId;
 pub enum Unsettled {
     /// No quorum of its servers is up. Nothing happened.
     NoQuorum,
-    /// A server that is up has no room for two more terms or two more entries. Nothing happened.
+    /// A server that is to take part has no room for two more terms or entries. Nothing happened.
     Exhausted,
     /// Memory was wanting, and no server crashed for it. The events in the trace happened.
     NoMemory,
-    /// This server found no memory, and is down. The events before its crash happened.
+    /// This server found no memory, and is down. The events before that happened.
     Crashed(ServerId),
 }
