@@ -367,7 +367,7 @@ fn played(alloc: Global) -> Option<usize> {
 }
 
 #[test]
-fn processes(rt: HostRuntime) {
+fn killed_processes(rt: HostRuntime) {
     let rows = played(rt.alloc());
     assert!(rt; rows == Some(ROWS.len()), "row {rows:?}");
 }
