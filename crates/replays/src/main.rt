@@ -13,6 +13,7 @@ mod lines;
 mod looks;
 mod moments;
 mod old;
+mod recoveries;
 mod requests;
 mod said;
 mod samples;
@@ -67,7 +68,8 @@ fn play_groups(rt: &HostRuntime) -> io::Result<()> {
     old::starts(rt)?;
     crashes::crashes(rt)?;
     looks::looks(rt)?;
-    moments::moments(rt)
+    moments::moments(rt)?;
+    recoveries::recoveries(rt)
 }
 
 fn main(rt: HostRuntime) -> io::Result<()> {

@@ -11,6 +11,7 @@ mod old_texts;
 mod plain_faults;
 mod running;
 mod servers;
+mod settling;
 mod snapshots;
 mod starved;
 mod waiting;
