@@ -281,7 +281,7 @@ fn skip(alloc: Global, frames: &Frames, messages: &mut Vec<Vec<u8>>) -> Option<u
 }
 
 /// What a process does; the items that left are answered.
-fn act(
+fn sent_by(
     alloc: Global,
     process: &mut Process,
     act: Act,
@@ -334,7 +334,7 @@ fn goes(
 ) -> Option<bool> {
     let (server, does, steps, lines) = *row;
     let place = ServerId::from_number(server)?.position();
-    let sent = act(alloc, processes.get_mut(place)?, does, messages.as_slice())?;
+    let sent = sent_by(alloc, processes.get_mut(place)?, does, messages.as_slice())?;
     let happened = happens(alloc, world, steps)?;
     let carried = carry(sent, world.sent(), messages)?;
     let lost = skip(alloc, world.sent(), messages)?;
