@@ -41,8 +41,8 @@ const STEPS: &[Step] = &[
     Deliver(8),
     Deliver(9),
     Deliver(10),
-    // Term 2. Server 5 asks by 15 to 18, and has the votes of servers 1 and 2 by 19 and 20. It takes
-    // two commands that it sends nobody, and crashes.
+    // Term 2. Server 5 asks by 15 to 18, and has the votes of servers 1 and 2 by 19 and 20. It
+    // takes two commands that it sends nobody, and crashes.
     Timeout(5),
     Deliver(15),
     Deliver(16),
@@ -51,8 +51,8 @@ const STEPS: &[Step] = &[
     Propose(5),
     Propose(5),
     Crash(5),
-    // Term 3. It asks again by 21 to 24, and has the votes of servers 1 and 2 by 25 and 26. It takes
-    // four more, and crashes again.
+    // Term 3. It asks again by 21 to 24, and has the votes of servers 1 and 2 by 25 and 26. It
+    // takes four more, and crashes again.
     Restart(5),
     Timeout(5),
     Deliver(21),
@@ -64,8 +64,9 @@ const STEPS: &[Step] = &[
     Propose(5),
     Propose(5),
     Crash(5),
-    // Term 4. Server 1 asks by 27 to 30, and has the votes of servers 3 and 4 by 31 and 32. It takes
-    // one command. Messages 33 to 36 have its two entries, and server 5 is down; 37 to 39 are lost.
+    // Term 4. Server 1 asks by 27 to 30, and has the votes of servers 3 and 4 by 31 and 32. It
+    // takes one command. Messages 33 to 36 have its two entries, and server 5 is down; 37 to 39 are
+    // lost.
     Timeout(1),
     Deliver(28),
     Deliver(29),
@@ -76,8 +77,8 @@ const STEPS: &[Step] = &[
     Deliver(33),
     Deliver(34),
     Deliver(35),
-    // Term 5. Server 4 asks by 40 to 43, and has the votes of servers 1 and 2 by 44 and 45. It takes
-    // one command. Messages 46 to 49 have its two entries; 50 to 52 are lost.
+    // Term 5. Server 4 asks by 40 to 43, and has the votes of servers 1 and 2 by 44 and 45. It
+    // takes one command. Messages 46 to 49 have its two entries; 50 to 52 are lost.
     Timeout(4),
     Deliver(40),
     Deliver(41),
@@ -88,10 +89,10 @@ const STEPS: &[Step] = &[
     Deliver(46),
     Deliver(47),
     Deliver(48),
-    // Term 6. Server 3 asks by 53 to 56, and has the votes of servers 1 and 2 by 57 and 58. It takes
-    // one command, and messages 59 to 62 have its two entries; server 2 alone gets them, and 63 is
-    // lost. It takes one more, and servers 1 and 4 get the three by 64 and 66; 68 and 69 are lost.
-    // It takes one more, for itself.
+    // Term 6. Server 3 asks by 53 to 56, and has the votes of servers 1 and 2 by 57 and 58. It
+    // takes one command, and messages 59 to 62 have its two entries; server 2 alone gets them, and
+    // 63 is lost. It takes one more, and servers 1 and 4 get the three by 64 and 66; 68 and 69 are
+    // lost. It takes one more, for itself.
     Timeout(3),
     Deliver(53),
     Deliver(54),
@@ -105,8 +106,8 @@ const STEPS: &[Step] = &[
     Deliver(64),
     Deliver(66),
     Propose(3),
-    // Term 7. Server 4 asks by 70 to 73, and has the votes of servers 1 and 2 by 74 and 75. It takes
-    // one command.
+    // Term 7. Server 4 asks by 70 to 73, and has the votes of servers 1 and 2 by 74 and 75. It
+    // takes one command.
     Timeout(4),
     Deliver(70),
     Deliver(71),
@@ -148,8 +149,8 @@ struct Case {
 
 /// A round of a leader is a beat, and a delivery and an answer for each other server that is up.
 const CASES: &[Case] = &[
-    // Server 1 leads. It sends the entry of term 8 behind index 10: servers 3 and 4 take it in place
-    // of their own, and it is committed; (a) lacks index 10. The second round brings (a) two
+    // Server 1 leads. It sends the entry of term 8 behind index 10: servers 3 and 4 take it in
+    // place of their own, and it is committed; (a) lacks index 10. The second round brings (a) two
     // entries. With (f) the leader goes back an index a round, from 10 to 3, which is the last that
     // they have in common: by the eighth round all have all, and what is committed.
     Case {
@@ -162,7 +163,8 @@ const CASES: &[Case] = &[
     // Server 4 has the best log, but server 1 is ahead in term: a beat, its message to server 1 and
     // the answer tell. It stands in term 9, four requests and four votes. In the first round nobody
     // holds index 12. In the second servers 1 and 2, which have 10 and 9 entries, get the rest, and
-    // in the third server 3, which goes back from 11 to 10. With (f) it is 12, 11, .., 3: ten rounds.
+    // in the third server 3, which goes back from 11 to 10. With (f) it is 12, 11, .., 3: ten
+    // rounds.
     Case {
         further: &[],
         is_of_all: false,
@@ -187,9 +189,9 @@ const CASES: &[Case] = &[
         log: &[1, 1, 1, 4, 4, 5, 5, 6, 6, 6, 8],
         counts: (2, 0, 8, 64),
     },
-    // Where all are down they restart, and server 1, whose last entry is of the greatest term, stands
-    // in term 9. In the first round nobody holds index 11. In the second servers 2, 3 and 4, which
-    // agree up to 9, 10 and 10, get the rest. With (f) it is 11, 10, .., 3: nine rounds.
+    // Where all are down they restart, and server 1, whose last entry is of the greatest term,
+    // stands in term 9. In the first round nobody holds index 11. In the second servers 2, 3 and 4,
+    // which agree up to 9, 10 and 10, get the rest. With (f) it is 11, 10, .., 3: nine rounds.
     Case {
         further: &[
             Deliver(81),
