@@ -314,7 +314,7 @@ fn replaced(log: &mut Log<Tally>, alloc: Global, index: usize, term: usize, amou
         && log.replace_behind(index, more).is_ok()
 }
 
-fn bring_on(state: &mut Tally, entries: &[Entry<Coded<Tally>>]) -> bool {
+fn apply_each(state: &mut Tally, entries: &[Entry<Coded<Tally>>]) -> bool {
     for entry in entries {
         if state.count() > 1_000_000 || state.apply(entry.command.command()).is_err() {
             return false;
@@ -335,7 +335,7 @@ fn compacted(log: &mut Log<Tally>, index: usize) -> bool {
     let Some(part) = log.behind(covered).get(..(index - covered) as usize) else {
         return false;
     };
-    if !bring_on(&mut state, part) || state.count() != index {
+    if !apply_each(&mut state, part) || state.count() != index {
         return false;
     }
     log.compact(place, state);
