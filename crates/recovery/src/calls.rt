@@ -37,7 +37,7 @@ pub fn settle_group(alloc: Global, world: &mut World) -> Result<ServerId, Unsett
     ensures ok { IfOk result (λ who. IsGroupSettled world.old world.new who) }
     ensures err { IfErr result (λ why. WhyGroupUnsettled world.old world.new why) }
 {
-    // Its nodes are known to be within their limits by what they are looked at.
+    // A look at its clients says that their nodes are within the limits.
     let _nodes = world.clients();
     settle_driven(&alloc, world)
 }

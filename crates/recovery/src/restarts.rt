@@ -44,7 +44,7 @@ pub fn settle_all_of_group(alloc: Global, world: &mut World) -> Result<ServerId,
     ensures err { IfErr result (λ why. WhyGroupAllUnsettled world.old world.new why) }
 {
     world.has_run();
-    // Its nodes are known to be within their limits by what they are looked at.
+    // A look at its clients says that their nodes are within the limits.
     let _nodes = world.clients();
     if !world.has_room() {
         return Err(Unsettled::Exhausted);
