@@ -6,9 +6,9 @@ use Rattle.raft_model.specs.Rafts.{is_up}
 use Rattle.group_model.specs.Inputs.{Arrives, Timeout, Beat, Request, TakeFrom, SubmitTo, FinishAt, NackAt, PlanTurn, Lapse, Expire, DrainTurn, FreeTurn, Reap, Compact, Crash, Restart}
 use Rattle.group_model.specs.Servers.{Server}
 use Rattle.server.specs.declared.server.Outbox.{Outbox}
-use Rattle.server.specs.ServerViews.{ServerView, IsServer, SameServer, crashed_server}
+use Rattle.server.specs.ServerViews.{ServerView, RefinesServer, SameServer, crashed_server}
 use Rattle.group_inputs.specs.Handings.{Handing, FrameBytes, OwnInput}
-use Rattle.server.specs.Refusals.{MayLackMemory, NoMemoryLeaves}
+use Rattle.server.specs.Refusals.{MayEndOutOfMemory, OutOfMemoryLeaves}
 use Rattle.server.specs.Answers.{HandedIn}
 use Rattle.server.proofs.Serving.{leader_up}
 use Rattle.actor.specs.Answers.{ServerAnswers}
@@ -19,7 +19,7 @@ same_server : (old new : ServerView) → new ≡ old → SameServer old new
 same_server old new e = subst (λ (v : ServerView). SameServer old v) (sym e) (record { raft = record { me = refl; size = refl; base = refl; server = refl }; desk = refl })
 
 -- one that may lack memory, and is not to start again, is up
-lacks_up : (n : ℕ) (s : Server) (h : Handing) → restarts_server h ≡ false → MayLackMemory n s h → is_up s.raft.mode ≡ true
+lacks_up : (n : ℕ) (s : Server) (h : Handing) → restarts_server h ≡ false → MayEndOutOfMemory n s h → is_up s.raft.mode ≡ true
 lacks_up n s (FrameBytes bytes) other may = may
 lacks_up n s (OwnInput (Arrives message)) other may = may
 lacks_up n s (OwnInput Timeout) other may = may.up
@@ -39,7 +39,7 @@ lacks_up n s (OwnInput Compact) other may = may
 lacks_up n s (OwnInput Crash) other may = absurd may
 lacks_up n s (OwnInput Restart) other may = absurd (cc)
 
-crashes : (old new : ServerView) (s : Server) (h : Handing) → restarts_server h ≡ false → NoMemoryLeaves old s h new → IsServer new (crashed_server s)
+crashes : (old new : ServerView) (s : Server) (h : Handing) → restarts_server h ≡ false → OutOfMemoryLeaves old s h new → RefinesServer new (crashed_server s)
 crashes old new s (FrameBytes bytes) other left = left
 crashes old new s (OwnInput Restart) other left = absurd (cc)
 crashes old new s (OwnInput input) other left = left

@@ -9,13 +9,13 @@ use Rattle.client_agent.specs.AgentView.{AgentView, crashed_agent}
 use Rattle.group_inputs.specs.declared.client_input.ClientInput.{ClientInput}
 use Rattle.client_agent.specs.Steps.{AgentTakes}
 use Rattle.server.specs.declared.server.Outbox.{Outbox}
-use Rattle.server.specs.ServerViews.{ServerView, IsServer, SameServer, crashed_server}
+use Rattle.server.specs.ServerViews.{ServerView, RefinesServer, SameServer, crashed_server}
 use Rattle.group_inputs.specs.Handings.{Handing}
 use Rattle.server.specs.Steps.{TakesHanding}
 use Rattle.actor.specs.declared.stepped.Stepped.{Stepped}
 use Rattle.actor.specs.declared.stepped.Stepped.TheVariants.{Taken, Crashed}
 use Rattle.actor.specs.Handed.{restarts_server}
-use Rattle.actor.specs.Refusals.{ServerRefuses, ServerAdmits, ServerMayLack, ClientRefuses, ClientAdmits, ClientMayLack, RefusedSo}
+use Rattle.actor.specs.Refusals.{ServerRefuses, ServerAdmits, ServerMayEndOutOfMemory, ClientRefuses, ClientAdmits, ClientMayEndOutOfMemory, RefusedSo}
 
 abbrev pub nothing_sent : Outbox
 nothing_sent = record { frames = []; work = [] }
@@ -28,24 +28,24 @@ nothing_sent = record { frames = []; work = [] }
 pub record ServerSteps (old : ServerView) (h : Handing) (new : ServerView) (before after : Outbox) : Type 0 where
   pub same : SameNumber old.raft new.raft
   pub admitted : ServerAdmits old h
-  pub taken : (s : Server) → IsServer old s → TakesHanding old s h new before after
+  pub taken : (s : Server) → RefinesServer old s → TakesHanding old s h new before after
 
 -- it was up, and lost what it does not store
 pub record ServerCrashed (old new : ServerView) : Type 0 where
   pub same : SameNumber old.raft new.raft
-  pub fell : (s : Server) → IsServer old s → (is_up s.raft.mode ≡ true) × IsServer new (crashed_server s)
+  pub fell : (s : Server) → RefinesServer old s → (is_up s.raft.mode ≡ true) × RefinesServer new (crashed_server s)
 
 -- it was down, and found no memory to start again
 pub record ServerStays (old : ServerView) (h : Handing) (new : ServerView) : Type 0 where
   pub restart : restarts_server h ≡ true
-  pub down : (s : Server) → IsServer old s → is_up s.raft.mode ≡ false
+  pub down : (s : Server) → RefinesServer old s → is_up s.raft.mode ≡ false
   pub same : new ≡ old
 
 -- A step, or a crash where memory may be wanting, or a refusal that leaves the same server. All but
 -- a step leave the outbox as it was.
 abbrev pub ServerAnswers : ServerView → Handing → Outbox → Result Stepped Refusal → ServerView → Outbox → Type 0
 ServerAnswers old h before (Ok Taken) new after = ServerSteps old h new before after
-ServerAnswers old h before (Ok Crashed) new after = ServerCrashed old new × ServerMayLack old h × (after ≡ before)
+ServerAnswers old h before (Ok Crashed) new after = ServerCrashed old new × ServerMayEndOutOfMemory old h × (after ≡ before)
 ServerAnswers old h before (Err cause) new after = SameServer old new × RefusedSo (ServerStays old h new) (ServerRefuses old h) cause × (after ≡ before)
 
 -- ---- a client
@@ -63,5 +63,5 @@ ClientCrashed old new = (is_some old.client.life ≡ true) × (new ≡ crashed_a
 -- The same of a client, which takes no memory to start again.
 abbrev pub ClientAnswers : AgentView → ClientInput → List Frame → Result Stepped Refusal → AgentView → List Frame → Type 0
 ClientAnswers old given before (Ok Taken) new after = ClientSteps old given new before after
-ClientAnswers old given before (Ok Crashed) new after = ClientCrashed old new × ClientMayLack old given × (after ≡ before)
+ClientAnswers old given before (Ok Crashed) new after = ClientCrashed old new × ClientMayEndOutOfMemory old given × (after ≡ before)
 ClientAnswers old given before (Err cause) new after = (new ≡ old) × RefusedSo ⊥ (ClientRefuses old given) cause × (after ≡ before)

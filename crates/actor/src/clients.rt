@@ -39,7 +39,7 @@ pub fn hand_client(
 }
 
 /// A frame comes to a client: all of its bytes. It is what `hand_client` does with an input Frame.
-pub fn bring_to_client(
+pub fn deliver_to_client(
     client: &mut Agent,
     frame: &[u8],
     frames: &mut Frames,

@@ -41,7 +41,7 @@ pub fn hand_server(
 }
 
 /// A frame comes to a server: all of its bytes. It is what `hand_server` does with an input Frame.
-pub fn bring_to_server(
+pub fn deliver_to_server(
     server: &mut Server,
     frame: &[u8],
     outbox: &mut Outbox,
@@ -53,10 +53,10 @@ pub fn bring_to_server(
 }
 
 /// A frame comes to a server that stands in the outbox, at this place from 0: what
-/// `bring_to_server` does with its bytes, which are read where they stand. Where no frame stands
+/// `deliver_to_server` does with its bytes, which are read where they stand. Where no frame stands
 /// there, no bytes come.
 #[inline(always)]
-pub fn bring_sent_to_server(
+pub fn deliver_sent_to_server(
     server: &mut Server,
     at: usize,
     outbox: &mut Outbox,

@@ -4,7 +4,7 @@ use Rattle.rows.specs.Keys.{eval_cmp, eval_id}
 use Rattle.rows.specs.Rising.{is_rising}
 use Rattle.rows.proofs.KeyLaws.{eval_cmp_total}
 use Rattle.fsm_tables.proofs.RowLaws.{rising_put}
-use Rattle.cluster_model.specs.Words.{State, no_rows}
+use Rattle.fsm_model.specs.Words.{State, no_rows}
 use Rattle.group_model.specs.Blocked.{BlockedEvals, blocked_over, blocked_with_eval, blocked_with_node, blocked_with_job}
 use Rattle.group_model.proofs.BlockedRows.{blocked_follow_evals, blocked_follow_nodes, blocked_follow_jobs}
 use Rattle.blocked.specs.Calls.{Call, Rebuild, EvalChanged, NodeChanged, JobChanged, IsOfState}

@@ -10,8 +10,8 @@ use Rattle.rows.specs.declared.evaluation.Evaluation.{Evaluation}
 use Rattle.rows.specs.Keys.{name_cmp}
 use Rattle.fsm_tables.specs.Rows.{row_of, put}
 use Rattle.fsm_tables.proofs.RowLaws.{row_of-put}
-use Rattle.cluster_model.specs.Words.{State, is_blocked}
-use Rattle.cluster_model.proofs.Lists.{rest_from}
+use Rattle.fsm_model.specs.Words.{State, is_blocked}
+use Rattle.fsm_model.proofs.Lists.{rest_from}
 use Rattle.group_model.specs.Blocked.{BlockedEval, room_with, room_over, blocked_eval}
 use Rattle.blocked.specs.declared.rooms.ClassRoom.{ClassRoom}
 use Rattle.blocked.specs.Rooms.{room_class, index_or_zero, room_in}

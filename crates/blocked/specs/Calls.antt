@@ -7,7 +7,7 @@ use Rattle.rows.specs.declared.evaluation.Evaluation.{Evaluation}
 use Rattle.rows.specs.Keys.{name_cmp, eval_cmp, job_name, node_number, eval_id}
 use Rattle.rows.specs.Rising.{is_rising}
 use Rattle.fsm_tables.specs.Rows.{put}
-use Rattle.cluster_model.specs.Words.{State, node_of}
+use Rattle.fsm_model.specs.Words.{State, node_of}
 use Rattle.group_model.specs.Blocked.{BlockedEvals, blocked_over, blocked_with_eval, blocked_with_node, blocked_with_job}
 use Rattle.group_model.specs.OneRow.{Replaces}
 

@@ -3,7 +3,7 @@ ghost use Rattle.std.specs.List.{list_any};
 ghost use Rattle.rows.specs.Keys.{eval_cmp};
 ghost use Rattle.fsm_tables.specs.Rows.{has_row};
 ghost use Rattle.fsm_tables.specs.ReservedTables.{has_space};
-ghost use Rattle.cluster_model.specs.Words.{is_blocked};
+ghost use Rattle.fsm_model.specs.Words.{is_blocked};
 ghost use Rattle.group_model.specs.Order.{in_order};
 ghost use Rattle.group_model.specs.Blocked.{BlockedEval as AnyBlockedEval, blocked_id, due, made_due};
 ghost use Rattle.group_model.specs.Blocked.{with_blocked, without_blocked, with_class_room};

@@ -1,6 +1,6 @@
 //! The law of blocked evaluations. The function has an empty body: what it says is its contract.
 ghost use Rattle.std.specs.Prelude.{List, []};
-ghost use Rattle.cluster_model.specs.Words.{no_rows};
+ghost use Rattle.fsm_model.specs.Words.{no_rows};
 ghost use Rattle.blocked.specs.Calls.{Call, IsOfState};
 
 /// After every list of calls the value is that of the state by then, which is what `rebuild` would

@@ -1,7 +1,7 @@
 //! The blocked evaluations of a whole state.
 ghost use Rattle.std.specs.Prelude.{◌≡◌, ◌≤◌, true, IfOk, OnErr, filter, length, map};
 ghost use Rattle.std.specs.List.{list_any};
-ghost use Rattle.cluster_model.specs.Words.{is_blocked};
+ghost use Rattle.fsm_model.specs.Words.{is_blocked};
 ghost use Rattle.group_model.specs.Blocked.{blocked_eval, room_over};
 ghost use Rattle.blocked.specs.Rooms.{room_in};
 

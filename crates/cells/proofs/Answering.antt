@@ -17,7 +17,7 @@ use Rattle.actor.specs.declared.group_actor.GroupActor.TheVariants as actors
 use Rattle.actor.specs.declared.stepped.Stepped.{Stepped}
 use Rattle.actor.specs.declared.stepped.Stepped.TheVariants.{Taken, Crashed}
 use Rattle.actor.specs.Handed.{comes_as_frame, is_client_frame}
-use Rattle.actor.specs.Refusals.{RefusedSo, ServerRefuses, ServerMayLack, ClientRefuses}
+use Rattle.actor.specs.Refusals.{RefusedSo, ServerRefuses, ServerMayEndOutOfMemory, ClientRefuses}
 use Rattle.actor.specs.Answers.{nothing_sent, ServerSteps, ServerStays, ServerAnswers, ClientSteps, ClientAnswers}
 use Rattle.event_book.specs.declared.view.EventView.TheVariants.{Own, Delivery}
 use Rattle.event_book.specs.declared.view.Output.{Output}
@@ -53,7 +53,7 @@ module _ (old new : ServerView) (before after : Outbox) (empty : before ≡ noth
   pub server_handed : (input : Box ServerInput Global) (h : Handing) (q : Result Stepped Refusal) → handing input.value ≡ h → comes_as_frame h ≡ false → ServerAnswers old h before q new after → DidOrRefused (actors.Server old) (Own (own.Server input)) q after (actors.Server new)
   server_handed input (FrameBytes bytes) q is other a = absurd (cc)
   server_handed input (OwnInput x) (Ok Taken) is other a = subst (λ k. TakesInput old k (map output_of after.frames) after.work new) (sym is) (turned (OwnInput x) a)
-  server_handed input (OwnInput x) (Ok Crashed) is other a = (a.2 ∙ empty, (refl, refl, a.0), subst (λ k. ServerMayLack old k) (sym is) a.1)
+  server_handed input (OwnInput x) (Ok Crashed) is other a = (a.2 ∙ empty, (refl, refl, a.0), subst (λ k. ServerMayEndOutOfMemory old k) (sym is) a.1)
   server_handed input (OwnInput x) (Err cause) is other a = (a.0, subst (λ k. RefusedSo (Unit {0}) (InputRefused old k) cause) (sym is) (said (ServerStays old (OwnInput x) new) (ServerRefuses old (OwnInput x)) cause a.1))
 
 -- ---- clients

@@ -13,7 +13,7 @@ use Rattle.group_model.specs.Worlds.{Event, AtServer, AtClient}
 use Rattle.client_agent.specs.AgentView.{AgentView}
 use Rattle.group_inputs.specs.declared.client_input.ClientInput.{ClientInput}
 use Rattle.group_inputs.specs.declared.client_input.ClientInput.TheVariants as client_inputs
-use Rattle.server.specs.ServerViews.{ServerView, IsServer, SameServer}
+use Rattle.server.specs.ServerViews.{ServerView, RefinesServer, SameServer}
 use Rattle.group_inputs.specs.Handings.{Handing, FrameBytes, OwnInput as TakesOwn, handing}
 use Rattle.actor.specs.declared.group_actor.GroupActor.{GroupActor}
 use Rattle.actor.specs.declared.group_actor.GroupActor.TheVariants.{Server, Client}
@@ -97,7 +97,7 @@ ActorSteps old event outputs new = (work : List Work) × ActorTurns old event ou
 
 -- the actor before its first input, in a group of n servers
 abbrev pub IsNewActor : ℕ → Actor → GroupActor → Type 0
-IsNewActor n (actors.Server i) (Server v) = (v.raft.me ≡ i) × (v.raft.size ≡ n) × IsServer v newcomer
+IsNewActor n (actors.Server i) (Server v) = (v.raft.me ≡ i) × (v.raft.size ≡ n) × RefinesServer v newcomer
 IsNewActor n (actors.Server i) (Client a) = ⊥
 IsNewActor n (actors.Client c) (Server v) = ⊥
 IsNewActor n (actors.Client c) (Client a) = (a.size ≡ n) × (a.client ≡ agent_of a.client.node) × (a.client.node.number ≡ c)

@@ -5,12 +5,12 @@ use Rattle.rows.specs.declared.node.NodeSpec.{NodeSpec}
 use Rattle.rows.specs.declared.refusal.Refusal.{Refusal}
 use Rattle.rows.specs.declared.refusal.Refusal.TheVariants as refusals
 use Rattle.rows.specs.declared.worker.Work.{Work}
-use Rattle.cluster_model.specs.Words.{State}
+use Rattle.fsm_model.specs.Words.{State}
 use Rattle.raft_model.specs.Rafts.{is_up}
 use Rattle.group_model.specs.Desks.{applied_state}
 use Rattle.group_model.specs.Servers.{Server}
 use Rattle.server.specs.Refusals.{WhyNoSnapshot}
-use Rattle.server.specs.ServerViews.{IsServer}
+use Rattle.server.specs.ServerViews.{RefinesServer}
 use Rattle.event_book.specs.declared.view.EventView.{EventView}
 use Rattle.event_book.specs.declared.view.EventView.TheVariants.{Own, Delivery, Crash}
 use Rattle.event_book.specs.declared.view.Output.{Output}
@@ -26,7 +26,7 @@ use Rattle.cells.specs.declared.cell.KeptEvent.{KeptEvent}
 use Rattle.cells.specs.declared.cell.KeptEvent.TheVariants as kept
 use Rattle.cells.specs.declared.cell.StampedEvent.{StampedEvent}
 use Rattle.cells.specs.Actors.{ActorTurns, ActorSteps, BeginsAs, IsNewActor, SameActor}
-use Rattle.cells.specs.Refusals.{TakesUp, IsDeafTo, ActorRefuses, ActorMayLack}
+use Rattle.cells.specs.Refusals.{TakesUp, IsDeafTo, ActorRefuses, ActorMayEndOutOfMemory}
 
 -- ---- envelopes
 
@@ -117,7 +117,7 @@ crash_noted = record { event = Crash; outputs = [] }
 abbrev pub IsNoteOf : CellView → EnvelopeView → NotedView OwnInput → List (MessageTokenView OwnInput) → Type 0
 IsNoteOf old envelope noted taken =
     (noted.event ≡ envelope.event) × (taken ≡ envelope.tokens)
-    ⊎ (noted ≡ crash_noted) × (taken ≡ []) × ActorMayLack old.actor envelope.event
+    ⊎ (noted ≡ crash_noted) × (taken ≡ []) × ActorMayEndOutOfMemory old.actor envelope.event
 
 -- the seat may note one event more
 abbrev pub HasNoteLeft : CellView → Type 0
@@ -162,11 +162,11 @@ IsEnvelopeRefused old envelope r =
 
 -- this is the replicated state of a server that is up, after so many entries
 abbrev pub HasApplied : GroupActor → State → ℕ → Type 0
-HasApplied (group_actors.Server v) state count = (s : Server) → IsServer v s →
+HasApplied (group_actors.Server v) state count = (s : Server) → RefinesServer v s →
     (is_up s.raft.mode ≡ true) × (state ≡ applied_state s.raft) × (count ≡ s.raft.commit)
 HasApplied (group_actors.Client a) state count = ⊥
 
 -- why there is no such state: the server is down, there is no memory, or it is a client
 abbrev pub WhyNotApplied : GroupActor → Refusal → Type 0
-WhyNotApplied (group_actors.Server v) r = (s : Server) → IsServer v s → WhyNoSnapshot s r
+WhyNotApplied (group_actors.Server v) r = (s : Server) → RefinesServer v s → WhyNoSnapshot s r
 WhyNotApplied (group_actors.Client a) r = r ≡ refusals.OutOfRange

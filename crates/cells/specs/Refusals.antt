@@ -11,7 +11,7 @@ use Rattle.actor.specs.declared.group_actor.GroupActor.{GroupActor}
 use Rattle.actor.specs.declared.group_actor.GroupActor.TheVariants.{Server, Client}
 use Rattle.actor.specs.Actors.{IsUpActor}
 use Rattle.actor.specs.Handed.{restarts_server, restarts_client}
-use Rattle.actor.specs.Refusals.{ServerRefuses, ServerMayLack, ClientRefuses, ClientMayLack}
+use Rattle.actor.specs.Refusals.{ServerRefuses, ServerMayEndOutOfMemory, ClientRefuses, ClientMayEndOutOfMemory}
 use Rattle.event_book.specs.declared.view.EventView.{EventView}
 use Rattle.event_book.specs.declared.view.EventView.TheVariants.{Own, Delivery, Crash}
 use Rattle.cells.specs.declared.own_input.OwnInput.{OwnInput}
@@ -58,12 +58,12 @@ ActorRefuses (Client a) Crash r = ⊥
 -- ---- want of memory
 
 -- the event may want memory at this actor
-abbrev pub ActorMayLack : GroupActor → EventView OwnInput → Type 0
-ActorMayLack (Server v) (Own (own.Server input)) = ServerMayLack v (handing input.value)
-ActorMayLack (Server v) (Own (own.Client input)) = ⊥
-ActorMayLack (Server v) (Delivery stamp place frame) = ServerMayLack v (FrameBytes frame)
-ActorMayLack (Server v) Crash = ⊥
-ActorMayLack (Client a) (Own (own.Server input)) = ⊥
-ActorMayLack (Client a) (Own (own.Client input)) = ClientMayLack a input.value
-ActorMayLack (Client a) (Delivery stamp place frame) = ClientMayLack a (client_inputs.Frame frame)
-ActorMayLack (Client a) Crash = ⊥
+abbrev pub ActorMayEndOutOfMemory : GroupActor → EventView OwnInput → Type 0
+ActorMayEndOutOfMemory (Server v) (Own (own.Server input)) = ServerMayEndOutOfMemory v (handing input.value)
+ActorMayEndOutOfMemory (Server v) (Own (own.Client input)) = ⊥
+ActorMayEndOutOfMemory (Server v) (Delivery stamp place frame) = ServerMayEndOutOfMemory v (FrameBytes frame)
+ActorMayEndOutOfMemory (Server v) Crash = ⊥
+ActorMayEndOutOfMemory (Client a) (Own (own.Server input)) = ⊥
+ActorMayEndOutOfMemory (Client a) (Own (own.Client input)) = ClientMayEndOutOfMemory a input.value
+ActorMayEndOutOfMemory (Client a) (Delivery stamp place frame) = ClientMayEndOutOfMemory a (client_inputs.Frame frame)
+ActorMayEndOutOfMemory (Client a) Crash = ⊥

@@ -5,7 +5,7 @@ use Rattle.rows.specs.declared.actor.Actor.{Actor}
 use Rattle.rows.specs.declared.refusal.Refusal.{Refusal}
 use Rattle.rows.specs.declared.refusal.Refusal.TheVariants as refusals
 use Rattle.rows.specs.declared.worker.Work.{Work}
-use Rattle.cluster_model.specs.Words.{State}
+use Rattle.fsm_model.specs.Words.{State}
 use Rattle.event_book.specs.declared.view.EventView.TheVariants.{Own}
 use Rattle.event_book.specs.Actors.{lists_actor}
 use Rattle.cells.specs.declared.own_input.OwnInput.{OwnInput}

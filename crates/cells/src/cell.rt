@@ -365,7 +365,7 @@ impl<B: BookId> Cell<B> {
     ///
     /// It is refused with `OutOfRange` where the actor is a client, with `Down` while the server is
     /// down, and with `NoMemory`.
-    pub fn snapshot(&self) -> Result<(Arc<Cluster>, Index), Refusal>
+    pub fn applied_fork(&self) -> Result<(Arc<Cluster>, Index), Refusal>
         ensures state { IfOk result (λ p. HasApplied self.now.actor (arc_value p.0) p.1) }
         ensures refused { IfErr result (λ e. WhyNotApplied self.now.actor e) }
     {
@@ -375,8 +375,8 @@ impl<B: BookId> Cell<B> {
         }
     }
 
-    /// `snapshot`, for the workers of an actor. It is refused with `OutOfRange` where the cell is
-    /// another actor's.
+    /// `applied_fork`, for the workers of an actor. It is refused with `OutOfRange` where the cell
+    /// is another actor's.
     /// - `state`, `refused`: of a cell of which it is known that its notes lead its actor to where
     ///   that is.
     pub fn snapshot_of(&self, actor: Actor) -> Result<(Arc<Cluster>, Index), Refusal>
@@ -389,7 +389,7 @@ impl<B: BookId> Cell<B> {
         if !is_for(actor, self.me) {
             return Err(Refusal::OutOfRange);
         }
-        self.snapshot()
+        self.applied_fork()
     }
 
     /// The actor takes an envelope: one step, or a crash in its place where it finds no memory;

@@ -9,7 +9,7 @@ ghost use Rattle.cells.specs.Inner.Steps.{DidOrRefused, IsAnEvent};
 
 use crate::own_input::OwnInput;
 use actor::{
-    GroupActor, Stepped, bring_to_client, bring_to_server, hand_client, hand_server,
+    GroupActor, Stepped, deliver_to_client, deliver_to_server, hand_client, hand_server,
     is_client_frame, is_client_restart, is_frame, is_restart,
 };
 use client_agent::Agent;
@@ -76,7 +76,7 @@ fn server_step(
 {
     match event {
         ActorEvent::Own(own) => own_server(alloc, server, own, outbox),
-        ActorEvent::Delivery { frame, .. } => bring_to_server(server, frame, outbox),
+        ActorEvent::Delivery { frame, .. } => deliver_to_server(server, frame, outbox),
         ActorEvent::Crash => unreachable!(),
     }
 }
@@ -120,7 +120,7 @@ fn client_step(
 {
     match event {
         ActorEvent::Own(own) => own_client(alloc, client, own, outbox),
-        ActorEvent::Delivery { frame, .. } => bring_to_client(client, frame, &mut outbox.frames),
+        ActorEvent::Delivery { frame, .. } => deliver_to_client(client, frame, &mut outbox.frames),
         ActorEvent::Crash => unreachable!(),
     }
 }

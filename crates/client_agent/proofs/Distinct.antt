@@ -3,7 +3,7 @@ use Rattle.std.proofs.Common.{◌≡◌, ℕ, nat_eq, sym, Bool, true, false, no
 use Rattle.std.specs.List.{list_any}
 use Rattle.std.proofs.lemmas.List.Folds.{list_any-append}
 use Rattle.rows.specs.declared.allocation.AllocId.{AllocId}
-use Rattle.cluster_model.specs.Words.{same_alloc}
+use Rattle.fsm_model.specs.Words.{same_alloc}
 use Rattle.client_agent.specs.Capacity.{have_distinct_ids, AreDistinct}
 
 pub turned : (a b : AllocId) → same_alloc a b ≡ same_alloc b a

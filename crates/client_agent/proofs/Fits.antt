@@ -10,7 +10,7 @@ use Rattle.rows.specs.declared.size.Size.{Size}
 use Rattle.rows.specs.Sizes.{Part, amount, plus, less, total, fits}
 use Rattle.rows.proofs.SizeLaws.{amount_of_plus, amount_of_less, amount_of_total, fits_of, of_fits, same_in_each}
 use Rattle.rows.specs.declared.listing.ListedAllocation.{ListedAllocation}
-use Rattle.cluster_model.specs.Words.{same_alloc}
+use Rattle.fsm_model.specs.Words.{same_alloc}
 use Rattle.group_model.specs.Agents.{Running, Life, Started, fits_beside, starts_one}
 use Rattle.client_agent.specs.Capacity.{FitTogether}
 use Rattle.client_agent.specs.Inner.Rooms.{runs_with, IsLeftBeside}

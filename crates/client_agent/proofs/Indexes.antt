@@ -21,8 +21,8 @@ use Rattle.pages.specs.Positions.{PositionOf}
 use Rattle.pages.proofs.Positions.{position_found}
 use Rattle.fsm_tables.proofs.RowLaws.{row_of-put}
 use Rattle.fsm_tables.proofs.ReservedTables.{row_of-without}
-use Rattle.cluster_model.specs.Words.{same_alloc}
-use Rattle.cluster_model.proofs.Keys.{at_number}
+use Rattle.fsm_model.specs.Words.{same_alloc}
+use Rattle.fsm_model.proofs.Keys.{at_number}
 use Rattle.group_model.specs.Agents.{Ended, is_shown, ended_how}
 use Rattle.client_agent.specs.declared.ids.IdRow.{IdRow}
 use Rattle.client_agent.specs.Capacity.{AreDistinct}

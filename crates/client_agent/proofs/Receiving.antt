@@ -5,7 +5,7 @@ use Rattle.rows.specs.declared.listing.ListedAllocation.{ListedAllocation}
 use Rattle.wire.specs.Frames.{Frame}
 use Rattle.wire.specs.declared.body.Body.{Body}
 use Rattle.wire.specs.declared.body.Body.TheVariants as bodies
-use Rattle.cluster_model.specs.Words.{State}
+use Rattle.fsm_model.specs.Words.{State}
 use Rattle.group_model.specs.Messages.{ServiceMessage, ToClient, ClientResponse, Told}
 use Rattle.group_model.specs.Agents.{Arrives}
 use Rattle.client_agent.specs.AgentView.{AgentView}

@@ -4,7 +4,7 @@ use Rattle.std.specs.List.{list_any}
 use Rattle.rows.specs.declared.size.Size.{Size}
 use Rattle.rows.specs.Sizes.{total, fits}
 use Rattle.rows.specs.declared.allocation.AllocId.{AllocId}
-use Rattle.cluster_model.specs.Words.{same_alloc}
+use Rattle.fsm_model.specs.Words.{same_alloc}
 use Rattle.group_model.specs.Agents.{Running}
 
 -- all of them together take no more than a node of this size has

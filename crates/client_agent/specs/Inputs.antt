@@ -1,6 +1,6 @@
 -- What is handed to a client.
 use Rattle.std.specs.Prelude.{◌≡◌, ℕ}
-use Rattle.cluster_model.specs.ClusterMachine.{cluster_meaning}
+use Rattle.fsm_model.specs.ClusterMachine.{cluster_spec}
 use Rattle.group_model.specs.Messages.{ClientResponse, ToClient}
 use Rattle.group_model.specs.Agents.{Input, Arrives, RegisterAt, Ping, PullFrom, End, Crash, Restart}
 use Rattle.group_frames.specs.GroupFrames.{IsServiceFrame}
@@ -12,7 +12,7 @@ use Rattle.group_inputs.specs.declared.client_input.ClientInput.TheVariants as i
 abbrev pub AgentReads : ℕ → ClientInput → Input → Type 0
 AgentReads me (inputs.Frame bytes) input =
     (from : ℕ) × (response : ClientResponse)
-    × IsServiceFrame cluster_meaning bytes (ToClient from me response)
+    × IsServiceFrame cluster_spec bytes (ToClient from me response)
     × (input ≡ Arrives from response)
 AgentReads me (inputs.Register server) input = input ≡ RegisterAt server
 AgentReads me (inputs.Ping server) input = input ≡ Ping server

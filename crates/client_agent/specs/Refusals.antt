@@ -8,8 +8,8 @@ use Rattle.rows.specs.declared.refusal.Refusal.{Refusal}
 use Rattle.rows.specs.declared.refusal.Refusal.TheVariants as refusals
 use Rattle.wire.specs.Messages.{Message as WireMessage}
 use Rattle.wire.specs.Frames.{message_at}
-use Rattle.cluster_model.specs.ClusterMachine.{cluster_meaning}
-use Rattle.cluster_model.specs.Words.{State}
+use Rattle.fsm_model.specs.ClusterMachine.{cluster_spec}
+use Rattle.fsm_model.specs.Words.{State}
 use Rattle.group_model.specs.Agents.{Agent, Life, RegisterAt, Ping, PullFrom, End, Crash, Restart, runs, step}
 use Rattle.raft_core.specs.Refusals.{is_server_of}
 use Rattle.group_inputs.specs.declared.client_input.ClientInput.{ClientInput}
@@ -42,7 +42,7 @@ unreadable_to_client n me (Err place) = Some (refusals.Frame place)
 
 abbrev pub client_frame_refusal : ℕ → ℕ → List ℕ → Option Refusal
 client_frame_refusal n me bytes =
-    unreadable_to_client {S = State} n me (message_at cluster_meaning bytes)
+    unreadable_to_client {S = State} n me (message_at cluster_spec bytes)
 
 -- Why a client in a group of n servers refuses what is handed in, if it does: it is down; bytes are
 -- no frame, or one for another; else as the definitions say.
@@ -65,21 +65,21 @@ RunsIn (Some l) id = runs l.running id ≡ true
 
 -- When an input may want memory: a frame, and a message to a server of the group, while the client
 -- is up; and the end of an allocation that runs. A crash takes none, nor does a restart.
-abbrev pub AgentMayLack : ℕ → Agent → ClientInput → Type 0
-AgentMayLack n c (inputs.Frame bytes) = is_some c.life ≡ true
-AgentMayLack n c (inputs.Register server) = (is_some c.life ≡ true) × (server < n)
-AgentMayLack n c (inputs.Ping server) = (is_some c.life ≡ true) × (server < n)
-AgentMayLack n c (inputs.Pull server) = (is_some c.life ≡ true) × (server < n)
-AgentMayLack n c (inputs.End id ok) = RunsIn c.life id
-AgentMayLack n c inputs.Crash = ⊥
-AgentMayLack n c inputs.Restart = ⊥
+abbrev pub AgentMayEndOutOfMemory : ℕ → Agent → ClientInput → Type 0
+AgentMayEndOutOfMemory n c (inputs.Frame bytes) = is_some c.life ≡ true
+AgentMayEndOutOfMemory n c (inputs.Register server) = (is_some c.life ≡ true) × (server < n)
+AgentMayEndOutOfMemory n c (inputs.Ping server) = (is_some c.life ≡ true) × (server < n)
+AgentMayEndOutOfMemory n c (inputs.Pull server) = (is_some c.life ≡ true) × (server < n)
+AgentMayEndOutOfMemory n c (inputs.End id ok) = RunsIn c.life id
+AgentMayEndOutOfMemory n c inputs.Crash = ⊥
+AgentMayEndOutOfMemory n c inputs.Restart = ⊥
 
 -- ---- both
 
 -- this refusal may be answered: want of memory where some may be wanted, any other where it is the
 -- one above
 abbrev pub IsAgentRefused : ℕ → Agent → ClientInput → Refusal → Type 0
-IsAgentRefused n c given refusals.NoMemory = AgentMayLack n c given
+IsAgentRefused n c given refusals.NoMemory = AgentMayEndOutOfMemory n c given
 IsAgentRefused n c given cause = agent_refusal n c given ≡ Some cause
 
 -- want of memory is a crash, any other refusal changes nothing

@@ -1,7 +1,7 @@
 -- What a client does with what is handed in.
 use Rattle.std.specs.Prelude.{◌≡◌, Ok, List, map}
 use Rattle.wire.specs.Frames.{Frame}
-use Rattle.cluster_model.specs.ClusterMachine.{cluster_meaning}
+use Rattle.fsm_model.specs.ClusterMachine.{cluster_spec}
 use Rattle.group_model.specs.Messages.{Service}
 use Rattle.group_model.specs.Agents.{Input, AgentTurn, step}
 use Rattle.group_frames.specs.GroupFrames.{SendsGroup}
@@ -14,7 +14,7 @@ pub record AgentSteps (old : AgentView) (input : Input) (new : AgentView) (befor
   pub turn : AgentTurn
   pub step : step old.size old.client input ≡ Ok turn
   pub client : new.client ≡ turn.client
-  pub sent : SendsGroup cluster_meaning before after (map Service turn.sent)
+  pub sent : SendsGroup cluster_spec before after (map Service turn.sent)
 
 -- so for each input that what is handed in may be
 abbrev pub AgentTakes : AgentView → ClientInput → AgentView → List Frame → List Frame → Type 0

@@ -16,7 +16,7 @@ ghost use Rattle.client_agent.specs.Inner.Received.{IsReceived, TakesReceived};
 
 use crate::asking::{Asked, client_of, send_asked};
 use crate::life::Life;
-use crate::listing::{Received, Shown, take_shown};
+use crate::listing::{Received, Shown, apply_list};
 use crate::running::RunningAllocation;
 use crate::started::Started;
 use fsm_state::Cluster;
@@ -98,7 +98,7 @@ impl Agent {
         ensures { result ≡ option_map (λ l. l.seen) self.now.client.life }
     {
         match &self.life {
-            Some(life) => Some(life.seen()),
+            Some(life) => Some(life.last_index()),
             None => None,
         }
     }
@@ -169,7 +169,7 @@ impl Agent {
 
     /// A server's list comes to a client that is up. One of an index below that of the last one
     /// changes nothing. Without memory the client is down, with what it had started before.
-    fn take_list(&mut self, list: &Shown<'_>, outbox: &mut Frames) -> Result<(), NoMemory>
+    fn handle_list(&mut self, list: &Shown<'_>, outbox: &mut Frames) -> Result<(), NoMemory>
         requires up { is_some self.old.client.life ≡ true }
         requires listed { AreListed list.now.rows.now }
         ensures same { self.new.size ≡ self.old.size }
@@ -182,12 +182,12 @@ impl Agent {
         let Some(mut life) = self.life.take() else {
             unreachable!()
         };
-        if list.index.get() < life.seen().get() {
+        if list.index.get() < life.last_index().get() {
             self.life = Some(life);
             return Ok(());
         }
         let before = self.started.len();
-        match take_shown(
+        match apply_list(
             self.alloc,
             &self.node,
             list,
@@ -207,7 +207,7 @@ impl Agent {
     }
 
     /// What a server says comes to a client that is up: of what it says, only a list changes it.
-    fn take(&mut self, received: Received, outbox: &mut Frames) -> Result<(), NoMemory>
+    fn handle(&mut self, received: Received, outbox: &mut Frames) -> Result<(), NoMemory>
         requires { is_some self.old.client.life ≡ true }
         ensures same { self.new.size ≡ self.old.size }
         ensures taken { OnOk result
@@ -219,7 +219,7 @@ impl Agent {
         match body {
             Body::List(index, listing) => {
                 let rows = listing.as_slice();
-                self.take_list(&Shown { from, index, rows }, outbox)
+                self.handle_list(&Shown { from, index, rows }, outbox)
             }
             _ => Ok(()),
         }
@@ -246,7 +246,7 @@ impl Agent {
             return Err(Refusal::Down);
         }
         match self.read(frame) {
-            Ok(received) => match self.take(received, outbox) {
+            Ok(received) => match self.handle(received, outbox) {
                 Ok(()) => Ok(()),
                 Err(_) => Err(Refusal::NoMemory),
             },

@@ -2,7 +2,7 @@
 ghost use Rattle.std.specs.Prelude.{◌≡◌, ◌≤◌, ℕ, [], ◌∷◌, true, Some, length, map, OnOk, OnErr};
 ghost use Rattle.rows.specs.declared.actor.Actor.TheVariants as actors;
 ghost use Rattle.wire.specs.Messages.{kind_of, may_go};
-ghost use Rattle.cluster_model.specs.ClusterMachine.{cluster_meaning};
+ghost use Rattle.fsm_model.specs.ClusterMachine.{cluster_spec};
 ghost use Rattle.group_model.specs.Messages.{ClientRequest, Service, ToServer};
 ghost use Rattle.group_model.specs.Agents.{report_messages};
 ghost use Rattle.group_frames.specs.GroupFrames.{SendsGroup, service_between};
@@ -59,7 +59,7 @@ fn send(
     ensures ok { OnOk result ((request : ClientRequest)
         → service_between (actors.Client me) (actors.Server server) body
         ≡ Some (ToServer me server request)
-        → SendsGroup cluster_meaning outbox.old outbox.new
+        → SendsGroup cluster_spec outbox.old outbox.new
         (Service (ToServer me server request) ∷ [])) }
     ensures err { OnErr result (outbox.new ≡ outbox.old) }
 {
@@ -73,7 +73,7 @@ pub(crate) fn send_asked(
     server: ServerId,
     outbox: &mut Frames,
 ) -> Result<(), NoMemory>
-    ensures ok { OnOk result (SendsGroup cluster_meaning outbox.old outbox.new
+    ensures ok { OnOk result (SendsGroup cluster_spec outbox.old outbox.new
         (Service (ToServer node.now.number server (request_of node.now what)) ∷ [])) }
     ensures err { OnErr result (outbox.new ≡ outbox.old) }
 {
@@ -89,7 +89,7 @@ pub(crate) fn send_reports(
     outbox: &mut Frames,
 ) -> Result<(), NoMemory>
     requires { length items ≤ 64 }
-    ensures ok { OnOk result (SendsGroup cluster_meaning outbox.old outbox.new
+    ensures ok { OnOk result (SendsGroup cluster_spec outbox.old outbox.new
         (map Service (report_messages node.now.number server items))) }
     ensures err { OnErr result (outbox.new ≡ outbox.old) }
 {

@@ -1,7 +1,7 @@
 //! Ids of allocations that are looked up in the logarithm of how many there are.
 ghost use Rattle.std.specs.Prelude.{◌≡◌, [], not, ◌&&◌, ◌||◌, OnOk, OnErr};
 ghost use Rattle.rows.specs.declared.allocation.AllocId.{AllocId};
-ghost use Rattle.cluster_model.specs.Words.{same_alloc};
+ghost use Rattle.fsm_model.specs.Words.{same_alloc};
 ghost use Rattle.client_agent.specs.Inner.Ids.{lists_id};
 
 use fsm_tables::{ReservedTable, Row};

@@ -1,7 +1,7 @@
 //! Lists of allocations that an agent is shown.
 ghost use Rattle.std.specs.Prelude.{◌≡◌, map, OnOk, OnErr};
 ghost use Rattle.rows.specs.Listings.{AreListed};
-ghost use Rattle.cluster_model.specs.ClusterMachine.{cluster_meaning};
+ghost use Rattle.fsm_model.specs.ClusterMachine.{cluster_spec};
 ghost use Rattle.group_model.specs.Messages.{Service};
 ghost use Rattle.group_model.specs.Agents.{report_messages, news};
 ghost use Rattle.group_frames.specs.GroupFrames.{SendsGroup};
@@ -38,7 +38,7 @@ pub(crate) struct Shown<'a> {
 
 /// A list is taken on this node, and what is new is reported to its sender. Without memory nothing
 /// is sent.
-pub(crate) fn take_shown(
+pub(crate) fn apply_list(
     alloc: Global,
     node: &NodeSpec,
     list: &Shown<'_>,
@@ -51,7 +51,7 @@ pub(crate) fn take_shown(
     ensures ok { let next = followed node.now.size list.now.rows.now started.old life.old in
         OnOk result ((started.new ≡ next.ids)
         × (life.new ≡ record life.old { seen = list.now.index; running = next.running })
-        × SendsGroup cluster_meaning outbox.old outbox.new (map Service (report_messages
+        × SendsGroup cluster_spec outbox.old outbox.new (map Service (report_messages
         node.now.number list.now.from (news next life.old.ended list.now.rows.now)))) }
     ensures fit { OnOk result (FitTogether node.now.size life.new.running) }
     ensures grows { MoreIds started.old started.new }

@@ -1,7 +1,7 @@
 //! The allocations that run on a node.
 ghost use Rattle.std.specs.Prelude.{◌≡◌, not, filter, IfOk};
 ghost use Rattle.rows.specs.Listings.{AreListed};
-ghost use Rattle.cluster_model.specs.Words.{same_alloc};
+ghost use Rattle.fsm_model.specs.Words.{same_alloc};
 ghost use Rattle.group_model.specs.Agents.{Running, is_shown, runs};
 ghost use Rattle.client_agent.specs.Inner.Ids.{AreRunning};
 

@@ -1,7 +1,7 @@
 //! The allocations that an agent ever started.
 ghost use Rattle.std.specs.Prelude.{◌≡◌, [], ◌∷◌, ◌++◌, false, length, take, OnOk, OnErr};
 ghost use Rattle.std.specs.List.{list_any};
-ghost use Rattle.cluster_model.specs.Words.{same_alloc};
+ghost use Rattle.fsm_model.specs.Words.{same_alloc};
 ghost use Rattle.client_agent.specs.Capacity.{AreDistinct};
 ghost use Rattle.client_agent.specs.Inner.Ids.{AreSet};
 

@@ -6,13 +6,13 @@ use Rattle.std.specs.List.{AllZip}
 use Rattle.rows.specs.declared.actor.Actor.TheVariants as actors
 use Rattle.rows.specs.declared.node.NodeSpec.{NodeSpec}
 use Rattle.raft_safety.proofs.Places.{get-some, replicate-get}
-use Rattle.cluster_model.specs.ClusterMachine.{cluster_meaning}
+use Rattle.fsm_model.specs.ClusterMachine.{cluster_spec}
 use Rattle.group_model.specs.Servers.{newcomer}
 use Rattle.group_model.specs.Agents.{Agent, agent_of}
 use Rattle.group_model.specs.Worlds.{first, agents_from, client_at}
 use Rattle.group_frames.specs.GroupFrames.{CarriesGroup}
 use Rattle.client_agent.specs.AgentView.{AgentView}
-use Rattle.server.specs.ServerViews.{ServerView, IsServer}
+use Rattle.server.specs.ServerViews.{ServerView, RefinesServer}
 use Rattle.actor.specs.declared.group_actor.GroupActor.{GroupActor}
 use Rattle.actor.specs.declared.group_actor.GroupActor.TheVariants.{Server, Client}
 use Rattle.cells.specs.Actors.{output_frame, IsNewActor}
@@ -93,7 +93,7 @@ stands_first n nodes c f =
             s.1,
             new.0,
             new.1 ∙ count,
-            subst (λ x. IsServer s.0 x) (replicate-get n newcomer i m at) new.2,
+            subst (λ x. RefinesServer s.0 x) (replicate-get n newcomer i m at) new.2,
           );
       clients = λ k x at.
           let q = first_client n nodes c f k x at in
@@ -102,5 +102,5 @@ stands_first n nodes c f =
           λ i a at. get-some (replicate n newcomer) i
           (omega (arith, f.no_more_servers i a at, length-replicate n newcomer));
       client_there = λ k a at. first_client_there n nodes c f k a at;
-      sent = subst (λ l. AllZip (CarriesGroup cluster_meaning) (map output_frame l) []) (sym f.sent) tt;
+      sent = subst (λ l. AllZip (CarriesGroup cluster_spec) (map output_frame l) []) (sym f.sent) tt;
     }

@@ -10,10 +10,10 @@ use Rattle.group_model.specs.Servers.{Server}
 use Rattle.group_model.specs.Worlds.{World, Event, first, agents_from, client_at}
 use Rattle.group_safety.proofs.Lists.{get_map, map_append, map_get, map_length}
 use Rattle.client_agent.specs.AgentView.{AgentView}
-use Rattle.server.specs.ServerViews.{ServerView, IsServer}
+use Rattle.server.specs.ServerViews.{ServerView, RefinesServer}
 use Rattle.spec.specs.Visible.{Visible}
 use Rattle.spec.specs.Refinement.{started_by, state_shown, visible_in}
-use Rattle.world.specs.GroupView.{GroupView, RepresentsGroup, ClientsKnowNumbers, nodes_of, node_in, client_in, client_view, renumbered}
+use Rattle.world.specs.GroupView.{GroupView, RefinesGroup, ClientsKnowNumbers, nodes_of, node_in, client_in, client_view, renumbered}
 use Rattle.world.specs.GroupShown.{HasShown, ShownBySpec}
 use Rattle.world.proofs.GroupClients.{node_of, nodes_stay}
 use Rattle.world.proofs.GroupReplays.{run_length}
@@ -295,7 +295,7 @@ record IsServerOf (w : World) (i : ℕ) (s : GroupActor) : Type 0 where
   there : slice_get w.servers i ≡ Some server
   view : ServerView
   is : s ≡ group_actors.Server view
-  represents : IsServer view server
+  refines : RefinesServer view server
 
 module _ (c : CellWorld) (w : World) (st : Stands c w) where
   is_client : (k : ℕ) (s : GroupActor) → c.at (actors.Client k) ≡ Some s → IsAgentOf w k s
@@ -313,7 +313,7 @@ module _ (c : CellWorld) (w : World) (st : Stands c w) where
         there = m.1;
         view = q.0;
         is = same_Some s _ (sym at ∙ q.1);
-        represents = q.4;
+        refines = q.4;
       }
 
 agent_is : (a b : AgentView) → group_actors.Client a ≡ group_actors.Client b → a ≡ b
@@ -330,7 +330,7 @@ module _ (c : CellWorld) (w : World) (st : Stands c w) where
       let q = is_server c w st i (group_actors.Server v) at in
       let same = sym (server_is v q.view q.is) in (
         q.server,
-        subst (λ y. IsServer y q.server) same q.represents,
+        subst (λ y. RefinesServer y q.server) same q.refines,
         get_map state_shown w.servers i q.server q.there,
       )
   is_seen (actors.Server i) (group_actors.Client a) at = let q = is_server c w st i (group_actors.Client a) at in absurd (cc)
@@ -345,21 +345,21 @@ module _ (c : CellWorld) (w : World) (st : Stands c w) where
 -- ---- the world has the actors of the cells
 
 module _ (view : GroupView) (c : CellWorld) (w : World) (st : Stands c w)
-    (rep : RepresentsGroup view w) (places : ClientsKnowNumbers view) where
+    (rep : RefinesGroup view w) (places : ClientsKnowNumbers view) where
   has_client : (k : ℕ) (x : Agent) → client_at w.clients k ≡ Some x →
       client_view view.clients k ≡ Some (record { size = length w.servers; client = x })
   has_client zero x at = absurd (none-some x at)
   has_client (suc k) x at =
       let b = map_get client_in view.clients k x (ap (λ l. slice_get l k) rep.clients ∙ at) in
-      let size = (places k b.0 b.1).1 ∙ zip_length IsServer view.servers w.servers rep.servers in
+      let size = (places k b.0 b.1).1 ∙ zip_length RefinesServer view.servers w.servers rep.servers in
       b.1 ∙ (λ i. Some (record { size = size i; client = b.2 i }))
 
   has_actor : (a : Actor) (s : GroupActor) → c.at a ≡ Some s → ShowsActor view a s
   has_actor (actors.Server i) (group_actors.Server v) at =
       let q = is_server c w st i (group_actors.Server v) at in
-      let x = zip_from IsServer view.servers w.servers i q.server rep.servers q.there in
+      let x = zip_from RefinesServer view.servers w.servers i q.server rep.servers q.there in
       let same = sym (server_is v q.view q.is) in
-      (x.0, q.server, x.1, subst (λ y. IsServer y q.server) same q.represents, x.2)
+      (x.0, q.server, x.1, subst (λ y. RefinesServer y q.server) same q.refines, x.2)
   has_actor (actors.Server i) (group_actors.Client a) at = let q = is_server c w st i (group_actors.Client a) at in absurd (cc)
   has_actor (actors.Client k) (group_actors.Server v) at = let q = is_client c w st k (group_actors.Server v) at in absurd (cc)
   has_actor (actors.Client k) (group_actors.Client a) at =
@@ -424,7 +424,7 @@ module _ (n m : ℕ) (given : List NodeSpec) (all : List Actor) (log : List (Not
         RunsToLast n nodes (noted_events log log) view → ClosesTo all cells view
     closes_to view trace count nodes_is places last =
         let ends = last at.world group_leads in
-        let rep = ends.1.represents in
+        let rep = ends.1.refines in
         let clients : length view.clients ≡ m =
         sym (map_length node_in view.clients) ∙ ap length nodes_is ∙ renumbered_length 1 nodes
         ∙ are.count in

@@ -10,8 +10,8 @@ use Rattle.wire.specs.Messages.{Message as WireMessage}
 use Rattle.wire.specs.Frames.{MessageFits, message_at, message_text}
 use Rattle.raft_model.specs.Rafts.{is_up, silent, crashed}
 use Rattle.raft_model.specs.Steps.{Crash as LogCrash, step as log_step}
-use Rattle.cluster_model.specs.Words.{State}
-use Rattle.cluster_model.specs.ClusterMachine.{cluster_meaning}
+use Rattle.fsm_model.specs.Words.{State}
+use Rattle.fsm_model.specs.ClusterMachine.{cluster_spec}
 use Rattle.group_model.specs.Messages.{Service}
 use Rattle.group_model.specs.Inputs as inputs
 use Rattle.group_model.specs.Servers as servers
@@ -24,7 +24,7 @@ use Rattle.group_frames.specs.GroupFrames.{CarriesGroup, SendsGroup}
 use Rattle.client_agent.specs.AgentView.{AgentView}
 use Rattle.group_inputs.specs.declared.client_input.ClientInput.{ClientInput}
 use Rattle.group_inputs.specs.declared.client_input.ClientInput.TheVariants as client_inputs
-use Rattle.server.specs.ServerViews.{ServerView, IsServer, crashed_server}
+use Rattle.server.specs.ServerViews.{ServerView, RefinesServer, crashed_server}
 use Rattle.group_inputs.specs.Handings.{Handing, FrameBytes, OwnInput as TakesOwn, handing}
 use Rattle.server.specs.SentBytes.{bytes_of}
 use Rattle.actor.specs.Handed.{comes_as_frame, is_client_frame}
@@ -43,8 +43,8 @@ use Rattle.cluster.proofs.CellWorlds.{Brings}
 
 -- a frame is read as the message whose frame it is
 abbrev pub ReadsAgain : Type 0
-ReadsAgain = (y : WireMessage State Command) → MessageFits cluster_meaning y →
-    message_at cluster_meaning (message_text cluster_meaning y) ≡ Ok y
+ReadsAgain = (y : WireMessage State Command) → MessageFits cluster_spec y →
+    message_at cluster_spec (message_text cluster_spec y) ≡ Ok y
 
 -- ---- what was sent
 
@@ -69,7 +69,7 @@ server_crash : (n i : ℕ) (m : Server) → is_up m.raft.mode ≡ true →
     servers.step n i m inputs.Crash
     ≡ Ok (record { server = crashed_server m; sent = []; work = [] })
 server_crash n i m up =
-    let crash : log_step cluster_meaning n i m.raft LogCrash ≡ Ok (silent (crashed m.raft)) =
+    let crash : log_step cluster_spec n i m.raft LogCrash ≡ Ok (silent (crashed m.raft)) =
     rw up refl in
     ap (λ b. servers.done n i m
     (if b then servers.acts n i m inputs.Crash else servers.wakes m inputs.Crash)) up
@@ -90,8 +90,8 @@ pub record ServerMoves (w : World) (e : Event) (i : ℕ) (new : ServerView) (out
   pub goes : happens w e ≡ after_turn w i (Ok turn)
   pub me : new.raft.me ≡ i
   pub size : new.raft.size ≡ length w.servers
-  pub server : IsServer new turn.server
-  pub sends : SendsGroup cluster_meaning [] (map output_frame outputs) turn.sent
+  pub server : RefinesServer new turn.server
+  pub sends : SendsGroup cluster_spec [] (map output_frame outputs) turn.sent
 
 -- an input of its own that is taken is no frame
 input_is
@@ -108,7 +108,7 @@ pub record ClientMoves (w : World) (e : Event) (k : ℕ) (new : AgentView) (outp
   pub goes : happens w e ≡ after_client w k (Ok turn)
   pub size : new.size ≡ length w.servers
   pub client : new.client ≡ turn.client
-  pub sends : SendsGroup cluster_meaning [] (map output_frame outputs) (map Service turn.sent)
+  pub sends : SendsGroup cluster_spec [] (map output_frame outputs) (map Service turn.sent)
 
 client_input_is
     : (old : AgentView) (given : ClientInput) (outputs : List Output) (new : AgentView) →
@@ -125,9 +125,9 @@ client_input_is old client_inputs.Restart outputs new t = (refl, t)
 -- ---- the steps
 
 module _ (again : ReadsAgain) (sent : List Output) (w : World)
-    (z : AllZip (CarriesGroup cluster_meaning) (map output_frame sent) w.sent) where
+    (z : AllZip (CarriesGroup cluster_spec) (map output_frame sent) w.sent) where
   module _ (i : ℕ) (m : Server) (old : ServerView) (here : slice_get w.servers i ≡ Some m)
-      (me : old.raft.me ≡ i) (size : old.raft.size ≡ length w.servers) (is : IsServer old m)
+      (me : old.raft.me ≡ i) (size : old.raft.size ≡ length w.servers) (is : RefinesServer old m)
       (new : ServerView) (outputs : List Output) where
     takes_handing : (e : Event) (h : Handing) (work : List Work) → ServerTakes old h w e i m →
         ServerTurned old h outputs work new → ServerMoves w e i new outputs

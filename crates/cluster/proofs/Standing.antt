@@ -8,7 +8,7 @@ use Rattle.rows.specs.declared.actor.Actor.{Actor}
 use Rattle.rows.specs.declared.actor.Actor.TheVariants as actors
 use Rattle.rows.specs.declared.node.NodeSpec.{NodeSpec}
 use Rattle.raft_safety.proofs.Places.{get_set-cases, set-length, get-some}
-use Rattle.cluster_model.specs.ClusterMachine.{cluster_meaning}
+use Rattle.fsm_model.specs.ClusterMachine.{cluster_spec}
 use Rattle.group_model.specs.Messages.{GroupMessage, Service}
 use Rattle.group_model.specs.Servers as servers
 use Rattle.group_model.specs.Servers.{Server}
@@ -18,7 +18,7 @@ use Rattle.group_model.specs.Worlds.{World, Event, happens, after_client, client
 use Rattle.group_safety.proofs.Lists.{get_map, map_get, map_append}
 use Rattle.group_frames.specs.GroupFrames.{CarriesGroup, SendsGroup}
 use Rattle.client_agent.specs.AgentView.{AgentView}
-use Rattle.server.specs.ServerViews.{ServerView, IsServer}
+use Rattle.server.specs.ServerViews.{ServerView, RefinesServer}
 use Rattle.world.proofs.Zips.{zip_append}
 use Rattle.world.proofs.GroupClients.{node_of, nodes_stay}
 use Rattle.event_book.specs.declared.view.EventView.{EventView}
@@ -35,7 +35,7 @@ use Rattle.cluster.proofs.Moves.{ReadsAgain, server_moves, client_moves}
 pub record Stands (c : CellWorld) (w : World) : Type 0 where
   pub servers : (i : ℕ) (m : Server) → slice_get w.servers i ≡ Some m →
       (v : ServerView) × (c.at (actors.Server i) ≡ Some (group_actors.Server v)) × (v.raft.me ≡ i)
-      × (v.raft.size ≡ length w.servers) × IsServer v m
+      × (v.raft.size ≡ length w.servers) × RefinesServer v m
   pub clients : (k : ℕ) (x : Agent) → client_at w.clients k ≡ Some x →
       (c.at (actors.Client k) ≡ Some (group_actors.Client (record { size = length w.servers; client = x })))
       × (x.node.number ≡ k)
@@ -43,7 +43,7 @@ pub record Stands (c : CellWorld) (w : World) : Type 0 where
       (m : Server) × (slice_get w.servers i ≡ Some m)
   pub client_there : (k : ℕ) (a : GroupActor) → c.at (actors.Client k) ≡ Some a →
       (x : Agent) × (client_at w.clients k ≡ Some x)
-  pub sent : AllZip (CarriesGroup cluster_meaning) (map output_frame c.sent) w.sent
+  pub sent : AllZip (CarriesGroup cluster_spec) (map output_frame c.sent) w.sent
 
 -- the world after an event of the cells' actors
 abbrev pub GoesOn : CellWorld → World → Event → Type 0
@@ -52,15 +52,15 @@ GoesOn d w e = (next : World) × (happens w e ≡ Ok next) × Stands d next
 -- ---- what a step changes
 
 sent_more : (sent outputs : List Output) (messages more : List GroupMessage) →
-    AllZip (CarriesGroup cluster_meaning) (map output_frame sent) messages →
-    SendsGroup cluster_meaning [] (map output_frame outputs) more →
-    AllZip (CarriesGroup cluster_meaning) (map output_frame (sent ++ outputs)) (messages ++ more)
+    AllZip (CarriesGroup cluster_spec) (map output_frame sent) messages →
+    SendsGroup cluster_spec [] (map output_frame outputs) more →
+    AllZip (CarriesGroup cluster_spec) (map output_frame (sent ++ outputs)) (messages ++ more)
 sent_more sent outputs messages more z s =
-    subst (λ l. AllZip (CarriesGroup cluster_meaning) l (messages ++ more))
+    subst (λ l. AllZip (CarriesGroup cluster_spec) l (messages ++ more))
     (sym (map_append output_frame sent outputs))
-    (zip_append (CarriesGroup cluster_meaning) (map output_frame sent) messages
+    (zip_append (CarriesGroup cluster_spec) (map output_frame sent) messages
     (map output_frame outputs) more z
-    (subst (λ l. AllZip (CarriesGroup cluster_meaning) l more) (sym s.added) s.carry))
+    (subst (λ l. AllZip (CarriesGroup cluster_spec) l more) (sym s.added) s.carry))
 
 -- a list that one place changed has something wherever it had
 still_there : {A : Type 0} (xs : List A) (i : ℕ) (x : A) (j : ℕ) (y : A) → slice_get xs j ≡ Some y →
@@ -95,8 +95,8 @@ module _ (c : CellWorld) (w : World) (st : Stands c w) where
   server_stands
       : (i : ℕ) (old : GroupActor) (new : ServerView) (outputs : List Output)
       (turn : servers.ServerTurn) → c.at (actors.Server i) ≡ Some old → new.raft.me ≡ i →
-      new.raft.size ≡ length w.servers → IsServer new turn.server →
-      SendsGroup cluster_meaning [] (map output_frame outputs) turn.sent →
+      new.raft.size ≡ length w.servers → RefinesServer new turn.server →
+      SendsGroup cluster_spec [] (map output_frame outputs) turn.sent →
       Stands (put c (actors.Server i) (group_actors.Server new) outputs)
       (record w { servers = slice_set w.servers i turn.server; sent = w.sent ++ turn.sent })
   server_stands i old new outputs turn here me size server sends =
@@ -109,7 +109,7 @@ module _ (c : CellWorld) (w : World) (st : Stands c w) where
             ap (λ b. if b then Some (group_actors.Server new) else c.at (actors.Server j)) (eq-eqb j i q.0),
             me ∙ sym q.0,
             size ∙ sym count,
-            subst (λ x. IsServer new x) q.1 server,
+            subst (λ x. RefinesServer new x) q.1 server,
           )
           | inr q ↦
               let s = st.servers j m q.1 in (
@@ -174,7 +174,7 @@ module _ (c : CellWorld) (w : World) (st : Stands c w) where
       (turn : agents.AgentTurn) → c.at (actors.Client k) ≡ Some old →
       happens w e ≡ after_client w k (Ok turn) → new.size ≡ length w.servers →
       new.client ≡ turn.client →
-      SendsGroup cluster_meaning [] (map output_frame outputs) (map Service turn.sent) →
+      SendsGroup cluster_spec [] (map output_frame outputs) (map Service turn.sent) →
       Stands (put c (actors.Client k) (group_actors.Client new) outputs)
       (record w {
         clients = with_client w.clients k turn.client;

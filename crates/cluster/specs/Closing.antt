@@ -7,7 +7,7 @@ use Rattle.group_model.specs.Inputs as inputs
 use Rattle.group_model.specs.Agents as agents
 use Rattle.group_model.specs.Servers.{Server}
 use Rattle.group_model.specs.Worlds.{Event, Deliver, AtServer, AtClient}
-use Rattle.server.specs.ServerViews.{ServerView, IsServer}
+use Rattle.server.specs.ServerViews.{ServerView, RefinesServer}
 use Rattle.spec.specs.Spec.{SpecState}
 use Rattle.spec.specs.Visible.{Visible, Behavior}
 use Rattle.spec.specs.Refinement.{state_shown}
@@ -53,7 +53,7 @@ noted_events log (e ∷ es) = noted_event log e.actor e.noted.event ∷ noted_ev
 -- the world has this actor: the same client, or a server that is the same one of the definitions
 abbrev pub ShowsActor : GroupView → Actor → GroupActor → Type 0
 ShowsActor view (actors.Server i) (group_actors.Server v) =
-    (x : ServerView) × (s : Server) × (slice_get view.servers i ≡ Some x) × IsServer v s × IsServer x s
+    (x : ServerView) × (s : Server) × (slice_get view.servers i ≡ Some x) × RefinesServer v s × RefinesServer x s
 ShowsActor view (actors.Server i) (group_actors.Client a) = ⊥
 ShowsActor view (actors.Client c) (group_actors.Server v) = ⊥
 ShowsActor view (actors.Client c) (group_actors.Client a) = client_view view.clients c ≡ Some a
@@ -79,7 +79,7 @@ pub record ClosesTo (all : List Actor) (cells : List CellView) (view : GroupView
 -- none while it is down; of a client what it ever started.
 abbrev pub IsSeen : Visible → Actor → GroupActor → Type 0
 IsSeen now (actors.Server i) (group_actors.Server v) =
-    (s : Server) × IsServer v s × (slice_get now.states i ≡ Some (state_shown s))
+    (s : Server) × RefinesServer v s × (slice_get now.states i ≡ Some (state_shown s))
 IsSeen now (actors.Server i) (group_actors.Client a) = ⊥
 IsSeen now (actors.Client c) (group_actors.Server v) = ⊥
 IsSeen now (actors.Client zero) (group_actors.Client a) = ⊥

@@ -7,8 +7,8 @@ use Rattle.rows.specs.Keys.{name_cmp}
 use Rattle.rows.specs.declared.allocation.Allocation.{Allocation}
 use Rattle.fsm_tables.specs.Claims.{is_live}
 use Rattle.fsm_tables.specs.Lookups.{lives_for}
-use Rattle.cluster_model.proofs.Keys.{names_turn}
-use Rattle.cluster_model.proofs.Lists.{anys_same}
+use Rattle.fsm_model.proofs.Keys.{names_turn}
+use Rattle.fsm_model.proofs.Lists.{anys_same}
 use Rattle.group_model.specs.Drains.{same_group, group_moves}
 use Rattle.drain.proofs.Groups.{any_both}
 use Rattle.drain.proofs.Moving.{same_name}

@@ -17,8 +17,8 @@ use Rattle.rows.specs.declared.node.DrainMode.TheVariants as drains
 use Rattle.fsm_tables.specs.Rows.{put}
 use Rattle.fsm_tables.specs.Claims.{is_live}
 use Rattle.fsm_tables.specs.Lookups.{lives_on}
-use Rattle.cluster_model.specs.Words.{State, node_of}
-use Rattle.cluster_model.proofs.Lists.{anys_same, filter_both}
+use Rattle.fsm_model.specs.Words.{State, node_of}
+use Rattle.fsm_model.proofs.Lists.{anys_same, filter_both}
 use Rattle.group_model.specs.Drains.{is_done, same_group, group_moves, firsts, movers, moves_of}
 use Rattle.drain.specs.declared.group.JobGroup.{JobGroup}
 use Rattle.drain.specs.Inner.Groups.{job_group, job_group_cmp, itself, is_met, firsts_but, stays}

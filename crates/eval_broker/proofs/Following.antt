@@ -9,7 +9,7 @@ use Rattle.rows.specs.Rising.{is_rising}
 use Rattle.raft_model.specs.Logs.{MAX}
 use Rattle.fsm_tables.specs.Rows.{put}
 use Rattle.fsm_tables.proofs.RowLaws.{rising_put}
-use Rattle.cluster_model.specs.Words.{same_eval, is_pending}
+use Rattle.fsm_model.specs.Words.{same_eval, is_pending}
 use Rattle.group_model.specs.Brokers.{Broker, Task, Free, Acked, no_tasks, task_key, eval_key, task_of, carry, broker_over, with_task, goes_out, set_mark, next_token, next, delivery_of, given, gives, deliver, UsedUp, Gives, HoldsPending}
 use Rattle.group_model.proofs.Following.{broker_follows}
 use Rattle.group_model.specs.Brokers.{after_gift}

@@ -13,7 +13,7 @@ use Rattle.fsm_tables.proofs.RowLaws.{first, second, none_below, below_less, bel
 use Rattle.fsm_tables.proofs.SetLaws.{same_rows}
 use Rattle.fsm_tables.specs.ReservedTables.{without}
 use Rattle.fsm_tables.proofs.ReservedTables.{rising_without, row_of-without, found_tied}
-use Rattle.cluster_model.specs.Words.{same_eval}
+use Rattle.fsm_model.specs.Words.{same_eval}
 use Rattle.raft_model.specs.Logs.{MAX}
 use Rattle.group_model.specs.Brokers.{Broker, Task, Gives, UsedUp, task_id, task_of, with_task, goes_out, next_token, next, delivery_of, given, gives, deliver}
 use Rattle.eval_broker.specs.declared.lists.Lists.{Lists}

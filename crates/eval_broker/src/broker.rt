@@ -1,7 +1,7 @@
 //! The broker.
 ghost use Rattle.std.specs.Prelude.{◌≡◌, ◌+◌, ◌<◌, ◌^◌, None, true, false, nat_lt, option_map, IfOk, IfErr, IfSome, IfNone, OnOk, OnErr, Ok};
 ghost use Rattle.raft_model.specs.Logs.{MAX};
-ghost use Rattle.cluster_model.specs.Words.{is_pending};
+ghost use Rattle.fsm_model.specs.Words.{is_pending};
 ghost use Rattle.group_model.specs.Brokers.{Nothing, UsedUp, Gives, no_tasks, task_of, broker_over, broker_with, deliver};
 ghost use Rattle.group_model.specs.Brokers.{outstanding, with_ack, with_nack};
 ghost use Rattle.eval_broker.specs.Answers.{pair_of, is_task_acked, IsPair, RefusesPair, failed_in_order};

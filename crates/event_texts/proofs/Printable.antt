@@ -18,7 +18,7 @@ use Rattle.rows.specs.declared.plan.Place.{Place}
 use Rattle.rows.specs.declared.plan.Plan.{Plan}
 use Rattle.rows.specs.declared.token.Token.{Token}
 use Rattle.rows.specs.declared.request.OperatorRequest.{OperatorRequest}
-use Rattle.rows.specs.declared.request.OperatorRequest.TheVariants.{PutJob, StopJob, PutEval, DrainNode}
+use Rattle.rows.specs.declared.request.OperatorRequest.TheVariants.{JobPut, JobStop, EvalPut, Drain}
 use Rattle.rows.specs.declared.worker.EvalOutcome.{EvalOutcome}
 use Rattle.rows.specs.declared.worker.EvalOutcome.TheVariants.{Blocked, Complete, Failed}
 use Rattle.group_model.specs.Worlds.{Event, Deliver, AtServer, AtClient}
@@ -135,10 +135,10 @@ mode true = word (codes "force") refl
 mode false = word (codes "slow") refl
 
 request : (r : OperatorRequest) → RequestFits r → IsPrintable (request_text r)
-request (PutJob j) fits = words (codes "put" ∷ job_text j ∷ []) (word (codes "put") refl, (job j fits, tt))
-request (StopJob name) fits = words (codes "stop" ∷ name ∷ []) (word (codes "stop") refl, (name_printable name fits, tt))
-request (PutEval name) fits = words (codes "eval" ∷ name ∷ []) (word (codes "eval") refl, (name_printable name fits, tt))
-request (DrainNode n force) fits =
+request (JobPut j) fits = words (codes "put" ∷ job_text j ∷ []) (word (codes "put") refl, (job j fits, tt))
+request (JobStop name) fits = words (codes "stop" ∷ name ∷ []) (word (codes "stop") refl, (name_printable name fits, tt))
+request (EvalPut name) fits = words (codes "eval" ∷ name ∷ []) (word (codes "eval") refl, (name_printable name fits, tt))
+request (Drain n force) fits =
     words (codes "drain" ∷ drain_text n force ∷ [])
     (word (codes "drain") refl, (words (decimal n ∷ mode_text force ∷ []) (node_id n fits, (mode force, tt)), tt))
 

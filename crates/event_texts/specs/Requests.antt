@@ -6,7 +6,7 @@ use Rattle.rows.specs.Requests.{command_of}
 use Rattle.rows.specs.declared.job.Group.{Group}
 use Rattle.rows.specs.declared.job.JobSpec.{JobSpec}
 use Rattle.rows.specs.declared.request.OperatorRequest.{OperatorRequest}
-use Rattle.rows.specs.declared.request.OperatorRequest.TheVariants.{PutJob, StopJob, PutEval, DrainNode}
+use Rattle.rows.specs.declared.request.OperatorRequest.TheVariants.{JobPut, JobStop, EvalPut, Drain}
 
 -- a group's name, count, class, processor time, memory and disk, with colons between
 abbrev pub group_text : Group → List ℕ
@@ -29,10 +29,10 @@ abbrev pub drain_text : ℕ → Bool → List ℕ
 drain_text node force = join_with_byte 32 (decimal node ∷ mode_text force ∷ [])
 
 abbrev pub request_text : OperatorRequest → List ℕ
-request_text (PutJob job) = join_with_byte 32 (codes "put" ∷ job_text job ∷ [])
-request_text (StopJob name) = join_with_byte 32 (codes "stop" ∷ name ∷ [])
-request_text (PutEval name) = join_with_byte 32 (codes "eval" ∷ name ∷ [])
-request_text (DrainNode node force) = join_with_byte 32 (codes "drain" ∷ drain_text node force ∷ [])
+request_text (JobPut job) = join_with_byte 32 (codes "put" ∷ job_text job ∷ [])
+request_text (JobStop name) = join_with_byte 32 (codes "stop" ∷ name ∷ [])
+request_text (EvalPut name) = join_with_byte 32 (codes "eval" ∷ name ∷ [])
+request_text (Drain node force) = join_with_byte 32 (codes "drain" ∷ drain_text node force ∷ [])
 
 -- the values of a request are within their limits
 abbrev pub RequestFits : OperatorRequest → Type 0

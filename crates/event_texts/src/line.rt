@@ -39,7 +39,7 @@ pub(crate) fn read_line(alloc: Global, line: &str) -> Result<Option<Line>, NoMem
     match verb {
         "request" => read_request_line(alloc, words),
         "submit" => read_submit(alloc, words),
-        _ => Ok(read_small(verb, words)),
+        _ => Ok(read_small_line(verb, words)),
     }
 }
 
@@ -80,7 +80,7 @@ fn read_submit(alloc: Global, words: &str) -> Result<Option<Line>, NoMemory>
 }
 
 // A line that takes no memory to read.
-fn read_small(verb: &str, words: &str) -> Option<Line>
+fn read_small_line(verb: &str, words: &str) -> Option<Line>
     ensures named { IfSome result (λ said. IsSmall (line_event said)
         × HasParts (line_event said) verb.now words.now) }
     ensures read { (event : group.Event) → IsSmall event → HasParts event verb.now words.now

@@ -5,7 +5,7 @@ ghost use Rattle.rows.specs.Names.{NameFits};
 ghost use Rattle.rows.specs.declared.job.Group.{Group};
 ghost use Rattle.rows.specs.declared.job.JobSpec.{JobSpec};
 ghost use Rattle.rows.specs.declared.request.OperatorRequest.{OperatorRequest};
-ghost use Rattle.rows.specs.declared.request.OperatorRequest.TheVariants.{DrainNode, PutEval, StopJob};
+ghost use Rattle.rows.specs.declared.request.OperatorRequest.TheVariants.{Drain, EvalPut, JobStop};
 ghost use Rattle.event_texts.specs.Requests.{RequestFits, drain_text, group_text, groups_text, job_text, request_text};
 ghost use Rattle.event_texts.specs.Inner.Lines.{BeginsJob};
 ghost use Rattle.event_texts.specs.Inner.Plain.{IsRequestText};
@@ -36,7 +36,7 @@ pub(crate) fn read_request(alloc: Global, text: &str) -> Result<Option<OperatorR
         return Ok(read_small_request(verb, words));
     }
     match read_job(alloc, words)? {
-        Some(job) => Ok(Some(OperatorRequest::PutJob(job))),
+        Some(job) => Ok(Some(OperatorRequest::JobPut(job))),
         None => Ok(None),
     }
 }
@@ -45,15 +45,15 @@ pub(crate) fn read_request(alloc: Global, text: &str) -> Result<Option<OperatorR
 fn read_small_request(verb: &str, words: &str) -> Option<OperatorRequest>
     ensures named { IfSome result (λ request. IsRequestText request (verb.now ++ 32 ∷ words.now)) }
     ensures stop { (name : List ℕ) → NameFits name → verb.now ≡ codes "stop" → words.now ≡ name
-        → result ≡ Some (StopJob name) }
+        → result ≡ Some (JobStop name) }
     ensures eval { (name : List ℕ) → NameFits name → verb.now ≡ codes "eval" → words.now ≡ name
-        → result ≡ Some (PutEval name) }
+        → result ≡ Some (EvalPut name) }
     ensures drain { (node : ℕ) (force : Bool) → NodeIdFits node → verb.now ≡ codes "drain"
-        → words.now ≡ drain_text node force → result ≡ Some (DrainNode node force) }
+        → words.now ≡ drain_text node force → result ≡ Some (Drain node force) }
 {
     match verb {
-        "stop" => Some(OperatorRequest::StopJob(read_name(words)?)),
-        "eval" => Some(OperatorRequest::PutEval(read_name(words)?)),
+        "stop" => Some(OperatorRequest::JobStop(read_name(words)?)),
+        "eval" => Some(OperatorRequest::EvalPut(read_name(words)?)),
         "drain" => read_drain(words),
         _ => None,
     }
@@ -62,15 +62,15 @@ fn read_small_request(verb: &str, words: &str) -> Option<OperatorRequest>
 // What stands behind `drain`.
 fn read_drain(words: &str) -> Option<OperatorRequest>
     ensures named { IfSome result (λ request. (node : ℕ) × (force : Bool) × NodeIdFits node
-        × (words.now ≡ drain_text node force) × (request ≡ DrainNode node force)) }
+        × (words.now ≡ drain_text node force) × (request ≡ Drain node force)) }
     ensures read { (node : ℕ) (force : Bool) → NodeIdFits node → words.now ≡ drain_text node force
-        → result ≡ Some (DrainNode node force) }
+        → result ≡ Some (Drain node force) }
 {
     let (node, mode) = cut(words, ' ')?;
     let node = read_node(node)?;
     match mode {
-        "slow" => Some(OperatorRequest::DrainNode(node, false)),
-        "force" => Some(OperatorRequest::DrainNode(node, true)),
+        "slow" => Some(OperatorRequest::Drain(node, false)),
+        "force" => Some(OperatorRequest::Drain(node, true)),
         _ => None,
     }
 }
@@ -174,19 +174,19 @@ pub(crate) fn append_request(request: &OperatorRequest, out: &mut Vec<u8>) -> Re
         × (out.new.items ≡ out.old.items ++ request_text request.now)) }
 {
     match request {
-        OperatorRequest::PutJob(job) => {
+        OperatorRequest::JobPut(job) => {
             append_text("put ", out)?;
             append_job(job, out)
         }
-        OperatorRequest::StopJob(name) => {
+        OperatorRequest::JobStop(name) => {
             append_text("stop", out)?;
             append_word(name, out)
         }
-        OperatorRequest::PutEval(name) => {
+        OperatorRequest::EvalPut(name) => {
             append_text("eval", out)?;
             append_word(name, out)
         }
-        OperatorRequest::DrainNode(node, force) => {
+        OperatorRequest::Drain(node, force) => {
             append_text("drain", out)?;
             append_word(node, out)?;
             append_text(if *force { " force" } else { " slow" }, out)

@@ -4,8 +4,8 @@ ghost use Rattle.event_texts.specs.Inner.Plain.{IsPlainWord};
 
 use crate::request::{append_group, read_group};
 use crate::word::{
-    append_next, append_number, cut, cut_number, read_client, read_index, read_name, read_node,
-    read_ordinal, read_serial, read_server, read_small,
+    append_next, append_number, cut, cut_number, read_byte, read_client, read_index, read_name,
+    read_node, read_ordinal, read_serial, read_server,
 };
 use rows::{
     Actor, AllocId, ClientId, EntryIndex, EvalId, Group, Index, LeaderTerm, Name, NoMemory, NodeId,
@@ -179,7 +179,7 @@ impl Spelled for EvalId {
         let (index, slot) = cut_number(text, '.')?;
         Some(EvalId {
             index: EntryIndex::new(index)?,
-            slot: read_small(slot)?,
+            slot: read_byte(slot)?,
         })
     }
 

@@ -46,7 +46,7 @@ pub fn read_number(text: &str) -> Option<u64>
 }
 
 /// A number in decimal without leading zeros, below 2^8.
-pub(crate) fn read_small(text: &str) -> Option<u8>
+pub(crate) fn read_byte(text: &str) -> Option<u8>
     ensures named { IfSome result (λ number. text.now ≡ decimal number) }
     ensures read { (number : ℕ) → number < 2 ^ 8 → text.now ≡ decimal number
         → result ≡ Some number }
@@ -80,7 +80,7 @@ pub(crate) fn read_node(text: &str) -> Option<NodeId>
     ensures named { IfSome result (λ node. NodeIdFits node × (text.now ≡ decimal node)) }
     ensures read { (node : ℕ) → NodeIdFits node → text.now ≡ decimal node → result ≡ Some node }
 {
-    NodeId::from_number(read_small(text)?)
+    NodeId::from_number(read_byte(text)?)
 }
 
 /// A priority, from 1 to 100.
@@ -90,7 +90,7 @@ pub(crate) fn read_priority(text: &str) -> Option<Priority>
     ensures read { (priority : ℕ) → PriorityFits priority → text.now ≡ decimal priority
         → result ≡ Some priority }
 {
-    Priority::new(read_small(text)?)
+    Priority::new(read_byte(text)?)
 }
 
 /// The count of a group, from 0 to 64.
@@ -99,7 +99,7 @@ pub(crate) fn read_count(text: &str) -> Option<GroupCount>
     ensures read { (count : ℕ) → GroupCountFits count → text.now ≡ decimal count
         → result ≡ Some count }
 {
-    GroupCount::new(read_small(text)?)
+    GroupCount::new(read_byte(text)?)
 }
 
 /// How much of a resource, from 1 to 1,000,000.
@@ -129,7 +129,7 @@ pub(crate) fn read_client(text: &str) -> Option<ClientId>
     ensures read { (client : ℕ) → NodeIdFits client
         → text.now ≡ decimal client → result ≡ Some client }
 {
-    ClientId::from_number(read_small(text)?)
+    ClientId::from_number(read_byte(text)?)
 }
 
 /// A place in the log or before it, from 0 to 2^40 - 1.
@@ -155,7 +155,7 @@ pub(crate) fn read_ordinal(text: &str) -> Option<Ordinal>
     ensures read { (ordinal : ℕ) → OrdinalFits ordinal
         → text.now ≡ decimal ordinal → result ≡ Some ordinal }
 {
-    Ordinal::new(read_small(text)?)
+    Ordinal::new(read_byte(text)?)
 }
 
 /// A number in decimal without leading zeros, below 2^64, and what stands behind the separator that

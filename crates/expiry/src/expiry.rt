@@ -3,12 +3,12 @@ ghost use Rattle.std.specs.Prelude.{OnOk, OnErr, IfOk, IfErr};
 ghost use Rattle.rows.specs.declared.refusal.Refusal.TheVariants as refusals;
 ghost use Rattle.std.specs.Ordering.{nat_cmp};
 ghost use Rattle.fsm_tables.specs.ReservedTables.{has_space};
-ghost use Rattle.group_model.specs.Expiry.{is_held, count_node, beat_count_of, beat_counts_over, beat_counts_with};
-ghost use Rattle.group_model.specs.BeatCounts.{beat_counted, expiry_refusal};
+ghost use Rattle.group_model.specs.Expiry.{is_held, count_node, heartbeat_count_of, heartbeat_counts_over, heartbeat_counts_with};
+ghost use Rattle.group_model.specs.HeartbeatCounts.{heartbeat_counted, expiry_refusal};
 ghost use Rattle.expiry.specs.Errors.{refusal_of};
 
-use crate::beat_count::BeatCount;
 use crate::errors::{ExpiryError, UnknownNode};
+use crate::heartbeat_count::HeartbeatCount;
 use fsm_state::Cluster;
 use fsm_tables::{ReservedTable, Table};
 use rows::{Index, NoMemory, Node, NodeId, NodeStatus};
@@ -21,14 +21,14 @@ use std::marker::Model;
 /// place of a timer is this project's own.)
 #[derive(Drop)]
 pub struct Expiry {
-    counts: ReservedTable<BeatCount>,
+    counts: ReservedTable<HeartbeatCount>,
 }
 
 impl Model for Expiry {
     ghost use Rattle.std.specs.Prelude.{List};
-    ghost use Rattle.group_model.specs.Expiry.{BeatCount as AnyBeatCount};
+    ghost use Rattle.group_model.specs.Expiry.{HeartbeatCount as AnyHeartbeatCount};
 
-    ghost Value = { List AnyBeatCount };
+    ghost Value = { List AnyHeartbeatCount };
 
     ghost view = { λ e. e.counts.rows };
 }
@@ -41,8 +41,11 @@ fn is_held(status: NodeStatus) -> bool
 }
 
 /// Those of the nodes that are held, none of which was heard of yet.
-fn counts_over(alloc: Global, nodes: &Table<Node>) -> Result<ReservedTable<BeatCount>, NoMemory>
-    ensures ok { IfOk result (λ counts. counts.rows ≡ beat_counts_over nodes.now []) }
+fn counts_over(
+    alloc: Global,
+    nodes: &Table<Node>,
+) -> Result<ReservedTable<HeartbeatCount>, NoMemory>
+    ensures ok { IfOk result (λ counts. counts.rows ≡ heartbeat_counts_over nodes.now []) }
     ensures memory { OnErr result (1 ≤ length nodes.now) }
 {
     nodes.ranges();
@@ -55,7 +58,7 @@ fn counts_over(alloc: Global, nodes: &Table<Node>) -> Result<ReservedTable<BeatC
             unreachable!()
         };
         if is_held(row.status) {
-            counts.put(BeatCount {
+            counts.put(HeartbeatCount {
                 node: row.number,
                 beats: Index::ZERO,
             });
@@ -65,10 +68,13 @@ fn counts_over(alloc: Global, nodes: &Table<Node>) -> Result<ReservedTable<BeatC
 }
 
 /// Makes room for a count, unless one of its node is held. Without memory no row changes.
-fn make_space(counts: &mut ReservedTable<BeatCount>, count: &BeatCount) -> Result<(), NoMemory>
+fn make_space(
+    counts: &mut ReservedTable<HeartbeatCount>,
+    count: &HeartbeatCount,
+) -> Result<(), NoMemory>
     ensures rows { counts.new.rows ≡ counts.old.rows }
     ensures ok { OnOk result (Holds (has_space nat_cmp count_node count.now counts.new)) }
-    ensures memory { OnErr result (beat_count_of count.now.node counts.old.rows ≡ None) }
+    ensures memory { OnErr result (heartbeat_count_of count.now.node counts.old.rows ≡ None) }
 {
     if counts.get(&count.node).is_some() {
         return Ok(());
@@ -90,7 +96,7 @@ impl Expiry {
     /// The nodes of a state that are not down, none of which was heard of yet. A state without
     /// nodes takes no memory.
     pub fn rebuild(alloc: Global, state: &Cluster) -> Result<Expiry, NoMemory>
-        ensures ok { IfOk result (λ e. e ≡ beat_counts_over state.now.nodes []) }
+        ensures ok { IfOk result (λ e. e ≡ heartbeat_counts_over state.now.nodes []) }
         ensures memory { OnErr result (1 ≤ length state.now.nodes) }
     {
         let counts = counts_over(alloc, state.node_table())?;
@@ -99,7 +105,7 @@ impl Expiry {
 
     /// How often a node was heard of, if it is held.
     pub fn beats(&self, node: NodeId) -> Option<Index>
-        ensures { result ≡ option_map (λ c. c.beats) (beat_count_of node self.now) }
+        ensures { result ≡ option_map (λ c. c.beats) (heartbeat_count_of node self.now) }
     {
         match self.counts.get(&node) {
             Some(count) => Some(count.beats),
@@ -111,9 +117,9 @@ impl Expiry {
     /// that is held keeps its number, also where it goes from ready to disconnected or back, and
     /// one that is down goes. Only a node that comes in takes memory; without it nothing changes.
     pub fn changed(&mut self, row: &Node) -> Result<(), NoMemory>
-        ensures ok { OnOk result (self.new ≡ beat_counts_with row.now self.old) }
+        ensures ok { OnOk result (self.new ≡ heartbeat_counts_with row.now self.old) }
         ensures err { OnErr result (self.new ≡ self.old) }
-        ensures memory { let old = beat_count_of row.now.number self.old in
+        ensures memory { let old = heartbeat_count_of row.now.number self.old in
             OnErr result ((is_held row.now.status ≡ true) × (old ≡ None)) }
     {
         if !is_held(row.status) {
@@ -121,7 +127,7 @@ impl Expiry {
             return Ok(());
         }
         let beats = self.beats(row.number).unwrap_or(Index::ZERO);
-        let count = BeatCount {
+        let count = HeartbeatCount {
             node: row.number,
             beats,
         };
@@ -133,8 +139,8 @@ impl Expiry {
     /// A node was heard of: its number rises by one, and stays at 2^40 - 1. Refused where it is not
     /// held, which changes nothing. It takes no memory.
     pub fn beat(&mut self, node: NodeId) -> Result<(), UnknownNode>
-        ensures ok { OnOk result (beat_counted node self.old ≡ Ok self.new) }
-        ensures err { OnErr result (beat_counted node self.old ≡ Err refusals.UnknownNode) }
+        ensures ok { OnOk result (heartbeat_counted node self.old ≡ Ok self.new) }
+        ensures err { OnErr result (heartbeat_counted node self.old ≡ Err refusals.UnknownNode) }
         ensures left { OnErr result (self.new ≡ self.old) }
     {
         let _in_order = self.counts.rows();

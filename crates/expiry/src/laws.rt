@@ -1,6 +1,6 @@
 //! Laws of the counts. The functions have empty bodies: what they say is their contracts.
 ghost use Rattle.std.specs.Prelude.{List, []};
-ghost use Rattle.group_model.specs.BeatCounts.{BeatsByCounts, ExpiresByCounts};
+ghost use Rattle.group_model.specs.HeartbeatCounts.{HeartbeatsByCounts, ExpiresByCounts};
 ghost use Rattle.expiry.specs.Calls.{Call, HoldsAfter};
 
 /// After every list of calls the nodes whose heartbeats are counted are those of the state by then
@@ -13,6 +13,6 @@ pub fn others_than_down_are_held()
 /// - `beats`: of a heartbeat.
 /// - `expires`: of an expiry.
 pub fn desks_go_by_counts()
-    ensures beats { BeatsByCounts }
+    ensures beats { HeartbeatsByCounts }
     ensures expires { ExpiresByCounts }
 {}

@@ -1,9 +1,9 @@
 //! Which nodes are not down, and how often they were heard of.
 #![tactic(auto)]
 
-mod beat_count;
 mod errors;
 mod expiry;
+mod heartbeat_count;
 mod laws;
 mod worked;
 

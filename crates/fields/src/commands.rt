@@ -410,7 +410,7 @@ impl Field for StatusChange {
 
     fn append(&self, out: &mut Vec<u8>) -> Result<(), NoMemory> {
         self.status().append(out)?;
-        self.snapshot().append(out)
+        self.snapshot_index().append(out)
     }
 }
 

@@ -10,8 +10,8 @@ use Rattle.rows.specs.Fits.{AllocationFits}
 use Rattle.rows.specs.Sizes.{Cpu}
 use Rattle.fsm_tables.specs.Claims.{claim_of, claims, on_node, is_live}
 use Rattle.fsm_tables.specs.Lookups.{lives_on}
-use Rattle.cluster_model.specs.Words.{State}
-use Rattle.cluster_model.specs.Admission.{evals_pass, those_jobs}
+use Rattle.fsm_model.specs.Words.{State}
+use Rattle.fsm_model.specs.Admission.{evals_pass, those_jobs}
 use Rattle.fsm_state.specs.Inner.Steps.{is_named_in}
 
 pub mapped_some : {A B : Type 0} (f : A → B) (o : Option A) → is_some (option_map f o) ≡ is_some o

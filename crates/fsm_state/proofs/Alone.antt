@@ -23,19 +23,19 @@ use Rattle.rows.proofs.SizeLaws.{amount_of_plus, same_in_each}
 use Rattle.fsm_tables.proofs.Uses.{use_is, use_fits}
 use Rattle.fsm_tables.specs.Claims.{Claim, claim_of, claims, on_node, used, is_live, is_wanted, is_active}
 use Rattle.fsm_tables.specs.LiveNames.{live_named}
-use Rattle.cluster_model.specs.Words.{State, same_alloc}
-use Rattle.cluster_model.specs.Safe.{same_name, are_distinct, is_safe}
-use Rattle.cluster_model.specs.Effect.{with_next_count, stop, planned}
-use Rattle.cluster_model.proofs.SafeLaws.{stop_releases, released, fewer_any}
+use Rattle.fsm_model.specs.Words.{State, same_alloc}
+use Rattle.fsm_model.specs.Safe.{same_name, are_distinct, is_safe}
+use Rattle.fsm_model.specs.Effect.{with_next_count, stop, planned}
+use Rattle.fsm_model.proofs.SafeLaws.{stop_releases, released, fewer_any}
 use Rattle.rows.proofs.KeyLaws.{alloc_cmp_total}
 use Rattle.rows.proofs.Truth.{is_true}
-use Rattle.cluster_model.specs.Plans.{room_of, fits_number, ended, wanted, are_free, are_dated, kept_claims, IsAskable}
-use Rattle.cluster_model.proofs.UseLaws.{Counts, released_sum}
-use Rattle.cluster_model.proofs.NameLaws.{join, itself, no_other, rest_other, distinct_same}
-use Rattle.cluster_model.proofs.PlanLaws.{plan_is_safe, safe_is_plan, planned_count, kept_is_distinct, distinct_mapped, distinct-append, used_planned}
-use Rattle.cluster_model.proofs.AfterLaws.{sums_same, sums_two, sum_at, claims_sum}
-use Rattle.cluster_model.proofs.Lists.{same_truth, and_true, and_false}
-use Rattle.cluster_model.proofs.Keys.{at_alloc}
+use Rattle.fsm_model.specs.Plans.{room_of, fits_number, ended, wanted, are_free, are_dated, kept_claims, IsAskable}
+use Rattle.fsm_model.proofs.UseLaws.{Counts, released_sum}
+use Rattle.fsm_model.proofs.NameLaws.{join, itself, no_other, rest_other, distinct_same}
+use Rattle.fsm_model.proofs.PlanLaws.{plan_is_safe, safe_is_plan, planned_count, kept_is_distinct, distinct_mapped, distinct-append, used_planned}
+use Rattle.fsm_model.proofs.AfterLaws.{sums_same, sums_two, sum_at, claims_sum}
+use Rattle.fsm_model.proofs.Lists.{same_truth, and_true, and_false}
+use Rattle.fsm_model.proofs.Keys.{at_alloc}
 use Rattle.fsm_state.specs.Inner.Alone.{claim_name, is_free_but, is_name_free, claim_if_live, ended_by, has_room, all_from, all_numbers, passes_alone}
 
 -- ---- names

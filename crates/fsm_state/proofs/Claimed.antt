@@ -14,17 +14,17 @@ use Rattle.rows.proofs.SizeLaws.{amount_of_less, both_in_each, same_in_each}
 use Rattle.rows.proofs.Truth.{is_true}
 use Rattle.fsm_tables.specs.Claims.{Claim, claim_of, claims, on_node, used, is_live}
 use Rattle.fsm_tables.proofs.Uses.{use_is, use_fits}
-use Rattle.cluster_model.specs.Words.{State}
-use Rattle.cluster_model.specs.Safe.{is_safe, are_safe, is_within, are_distinct}
-use Rattle.cluster_model.specs.Effect.{with_next_count, stop, planned}
-use Rattle.cluster_model.proofs.SafeLaws.{Fewer, nothing, kept, gone, fewer_distinct, distinct_of, stop_releases}
-use Rattle.cluster_model.proofs.UseLaws.{Counts, number_fits, safe_by_numbers, low_numbers}
-use Rattle.cluster_model.specs.Plans.{wanted, are_free, is_made, left, left_by, FitsWhereAsked}
-use Rattle.cluster_model.proofs.PlanLaws.{all_wanted_count, all_append, distinct-append, kept_is_distinct}
-use Rattle.cluster_model.proofs.RangeLaws.{all_mapped}
-use Rattle.cluster_model.proofs.AfterLaws.{planned_is_safe, safe_is_planned, RowCounts, rows_count}
+use Rattle.fsm_model.specs.Words.{State}
+use Rattle.fsm_model.specs.Safe.{is_safe, are_safe, is_within, are_distinct}
+use Rattle.fsm_model.specs.Effect.{with_next_count, stop, planned}
+use Rattle.fsm_model.proofs.SafeLaws.{Fewer, nothing, kept, gone, fewer_distinct, distinct_of, stop_releases}
+use Rattle.fsm_model.proofs.UseLaws.{Counts, number_fits, safe_by_numbers, low_numbers}
+use Rattle.fsm_model.specs.Plans.{wanted, are_free, is_made, left, left_by, FitsWhereAsked}
+use Rattle.fsm_model.proofs.PlanLaws.{all_wanted_count, all_append, distinct-append, kept_is_distinct}
+use Rattle.fsm_model.proofs.RangeLaws.{all_mapped}
+use Rattle.fsm_model.proofs.AfterLaws.{planned_is_safe, safe_is_planned, RowCounts, rows_count}
 use Rattle.fsm_state.specs.Inner.Claimed.{fits_steps, bears_node}
-use Rattle.cluster_model.proofs.Lists.{same_truth}
+use Rattle.fsm_model.proofs.Lists.{same_truth}
 
 one_step : (a s u : ℕ) → (nat_le a u && nat_le s (u - a)) ≡ nat_le (a + s) u
 one_step a s u = grind arith

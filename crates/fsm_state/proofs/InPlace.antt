@@ -5,7 +5,7 @@ use Rattle.rows.specs.declared.job.Job.{Job}
 use Rattle.rows.specs.Keys.{name_cmp, job_name}
 use Rattle.rows.specs.Limits.{most_jobs}
 use Rattle.fsm_tables.specs.Rows.{row_of}
-use Rattle.cluster_model.specs.Words.{State, job_of}
+use Rattle.fsm_model.specs.Words.{State, job_of}
 use Rattle.fsm_state.specs.Inner.Steps.{put_changed, job_changed}
 
 pub on_err : {A E : Type 0} (r : Result A E) (P Q : Type 0) → (P → Q) → OnErr r P → OnErr r Q

@@ -9,8 +9,8 @@ use Rattle.rows.specs.Rising.{is_rising}
 use Rattle.rows.proofs.KeyLaws.{alloc_cmp_total}
 use Rattle.fsm_tables.specs.Rows.{put_within}
 use Rattle.fsm_tables.specs.Lookups.{is_active_on}
-use Rattle.cluster_model.specs.Words.{State}
-use Rattle.cluster_model.specs.Effect.{client_row, left_as}
+use Rattle.fsm_model.specs.Words.{State}
+use Rattle.fsm_model.specs.Effect.{client_row, left_as}
 use Rattle.fsm_state.specs.Inner.Steps.{all_left, left_steps}
 use Rattle.fsm_state.proofs.StepLaws.{one_more}
 

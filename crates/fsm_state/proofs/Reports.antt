@@ -9,14 +9,14 @@ use Rattle.rows.specs.declared.command.Report.{Report}
 use Rattle.rows.specs.Keys.{alloc_cmp, alloc_id}
 use Rattle.rows.specs.Rising.{is_rising}
 use Rattle.fsm_tables.specs.Claims.{is_active, is_live}
-use Rattle.cluster_model.specs.Words.{State, alloc_of, is_some_and, same_alloc}
-use Rattle.cluster_model.specs.Effect.{owns, is_ended_by, client_state_of, told, told_all}
+use Rattle.fsm_model.specs.Words.{State, alloc_of, is_some_and, same_alloc}
+use Rattle.fsm_model.specs.Effect.{owns, is_ended_by, client_state_of, told, told_all}
 use Rattle.fsm_state.specs.Inner.Steps.{ended_now}
 use Rattle.fsm_state.proofs.Touching.{is_one_of}
 use Rattle.rows.proofs.KeyLaws.{alloc_cmp_total}
-use Rattle.cluster_model.proofs.Lists.{anys_same, and_assoc}
+use Rattle.fsm_model.proofs.Lists.{anys_same, and_assoc}
 use Rattle.fsm_state.proofs.StepLaws.{any_at}
-use Rattle.cluster_model.proofs.Keys.{at_alloc}
+use Rattle.fsm_model.proofs.Keys.{at_alloc}
 use Rattle.fsm_state.proofs.StopLaws.{AreRising, live_stays, one_ended}
 
 -- whether a report is of the allocation

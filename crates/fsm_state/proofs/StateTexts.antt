@@ -11,7 +11,7 @@ use Rattle.fields_model.specs.Rows.{allocation}
 use Rattle.fields_model.specs.StateText.{jobs, nodes, evaluations, allocations, state}
 use Rattle.fields_model.proofs.RangeLaws.{fits_state}
 use Rattle.fsm_tables.specs.TableRows.{TablesFit}
-use Rattle.cluster_model.specs.Words.{State}
+use Rattle.fsm_model.specs.Words.{State}
 
 pub all_fit : (s : State) → s.count < 2 ^ 40 → TablesFit (record { jobs = s.jobs; nodes = s.nodes; evals = s.evals; allocs = s.allocs }) → (state newest).Fits s
 all_fit s low t = fits_state s (record {

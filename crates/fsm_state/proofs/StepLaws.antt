@@ -20,12 +20,12 @@ use Rattle.rows.specs.Rising.{is_below, is_rising}
 use Rattle.fsm_tables.specs.Rows.{by_order, row_of, has_row, put, put_within}
 use Rattle.fsm_tables.proofs.RowLaws.{both, less, first, second, none_below, below_less, below_tied, some_none, some_same}
 use Rattle.fsm_tables.proofs.ReservedTables.{found_tied}
-use Rattle.cluster_model.specs.Words.{is_some_and, same_eval, is_open}
-use Rattle.cluster_model.specs.Effect.{stop_job, status_row, marked_as, draining, drained, set_status}
+use Rattle.fsm_model.specs.Words.{is_some_and, same_eval, is_open}
+use Rattle.fsm_model.specs.Effect.{stop_job, status_row, marked_as, draining, drained, set_status}
 use Rattle.rows.proofs.KeyLaws.{eval_cmp_total}
 use Rattle.fsm_state.specs.Inner.Steps.{put_changed, with_row_changed, set_one}
-use Rattle.cluster_model.proofs.Lists.{maps_same, or_false, both_tests}
-use Rattle.cluster_model.proofs.Keys.{at_name, at_number, at_eval}
+use Rattle.fsm_model.proofs.Lists.{maps_same, or_false, both_tests}
+use Rattle.fsm_model.proofs.Keys.{at_name, at_number, at_eval}
 
 -- ---- a change at a key is a map, in a table of rising keys
 

@@ -15,15 +15,15 @@ use Rattle.rows.specs.Rising.{is_rising}
 use Rattle.fsm_tables.specs.Rows.{row_of, put_within}
 use Rattle.fsm_tables.proofs.RowLaws.{rising_mapped}
 use Rattle.fsm_tables.specs.Claims.{Claim, claim_of, is_active, is_live, is_wanted}
-use Rattle.cluster_model.specs.Words.{State, alloc_of, is_some_and, same_alloc}
-use Rattle.cluster_model.specs.Effect.{owns, moves, with_migrate_mark, is_ended_by, frees, with_room, altered, stop, client_state_of, told, told_all}
-use Rattle.cluster_model.proofs.SafeLaws.{Releases, with_room_keeps, stop_releases, told_releases, told_all_releases}
+use Rattle.fsm_model.specs.Words.{State, alloc_of, is_some_and, same_alloc}
+use Rattle.fsm_model.specs.Effect.{owns, moves, with_migrate_mark, is_ended_by, frees, with_room, altered, stop, client_state_of, told, told_all}
+use Rattle.fsm_model.proofs.SafeLaws.{Releases, with_room_keeps, stop_releases, told_releases, told_all_releases}
 use Rattle.rows.proofs.KeyLaws.{alloc_cmp_total}
 use Rattle.fsm_state.specs.Inner.Steps.{put_changed, room_at, alloc_changed, revised_row, revised, ended_job, stop_one, stopped_all, tell_one, told_steps, ended_jobs, mark_one, marked_all, live_job, live_jobs}
 use Rattle.fsm_state.proofs.Touching.{is_one_of}
-use Rattle.cluster_model.proofs.Lists.{maps, map_itself, maps_same, anys_same, and_false, swap, and_assoc, both_tests}
+use Rattle.fsm_model.proofs.Lists.{maps, map_itself, maps_same, anys_same, and_false, swap, and_assoc, both_tests}
 use Rattle.fsm_state.proofs.StepLaws.{only, only_keeps, none_only, changed_is, any_at, node_changed_is}
-use Rattle.cluster_model.proofs.Keys.{names_turn, at_alloc}
+use Rattle.fsm_model.proofs.Keys.{names_turn, at_alloc}
 
 -- the change of the allocation of an id
 abbrev pub at_id : (Allocation → Allocation) → AllocId → Allocation → Allocation

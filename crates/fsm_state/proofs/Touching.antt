@@ -15,11 +15,11 @@ use Rattle.rows.specs.Keys.{name_cmp, job_name}
 use Rattle.rows.specs.Rising.{is_rising}
 use Rattle.fsm_tables.specs.Rows.{row_of, has_row}
 use Rattle.fsm_tables.proofs.Filters.{found_at, under_are_filtered}
-use Rattle.cluster_model.specs.Words.{State}
-use Rattle.cluster_model.specs.Effect.{with_evals, touched, is_named, owns}
-use Rattle.cluster_model.proofs.Lists.{or_false}
-use Rattle.cluster_model.proofs.Keys.{names_turn}
-use Rattle.cluster_model.proofs.RangeLaws.{no_more}
+use Rattle.fsm_model.specs.Words.{State}
+use Rattle.fsm_model.specs.Effect.{with_evals, evaluations_created, is_named, owns}
+use Rattle.fsm_model.proofs.Lists.{or_false}
+use Rattle.fsm_model.proofs.Keys.{names_turn}
+use Rattle.fsm_model.proofs.RangeLaws.{no_more}
 use Rattle.fsm_state.specs.Inner.Steps.{is_named_in, has_name, jobs_at, owners, AddsNames}
 
 -- whether a job's name is one of these
@@ -61,7 +61,7 @@ few_at those jobs js e few =
 
 -- the one row of a name is touched
 pub touched_found : (name : List ℕ) (r : Option Job) (s : State) → T (is_rising name_cmp job_name s.jobs) → row_of name_cmp job_name name s.jobs ≡ r
-    → record s { evals = with_evals s.count 0 (cons_option r []) s.evals } ≡ touched (is_named name) s
+    → record s { evals = with_evals s.count 0 (cons_option r []) s.evals } ≡ evaluations_created (is_named name) s
 touched_found name r s rising e =
     ap (λ js. record s { evals = with_evals s.count 0 js s.evals }) (ap (λ q. cons_option q []) (sym e) ∙ named_row name s.jobs rising)
 

@@ -2,11 +2,11 @@
 ghost use Rattle.std.specs.Prelude.{◌≡◌, ◌≤◌, ◌&&◌, Option, Some, None, IfOk, OnErr};
 ghost use Rattle.std.specs.List.{list_any};
 ghost use Rattle.rows.specs.declared.command.Command.TheVariants as commands;
-ghost use Rattle.cluster_model.specs.Words.{is_draining};
-ghost use Rattle.cluster_model.specs.Admission.{admission, jobs_pass, evals_pass, differs, allows, touch_passes};
-ghost use Rattle.cluster_model.specs.Effect.{is_named};
+ghost use Rattle.fsm_model.specs.Words.{is_draining};
+ghost use Rattle.fsm_model.specs.Admission.{admission, jobs_pass, evals_pass, differs, allows, new_evals_pass};
+ghost use Rattle.fsm_model.specs.Effect.{is_named};
 ghost use Rattle.fsm_tables.specs.Lookups.{lives_on};
-ghost use Rattle.fsm_state.specs.Memory.{AdmissionMayLack};
+ghost use Rattle.fsm_state.specs.Memory.{AdmissionMayEndOutOfMemory};
 
 mod alone;
 mod claims;
@@ -74,8 +74,8 @@ impl Cluster {
     }
 
     /// Whether the evaluation that touches the job, if it has a row, would pass the limit.
-    fn touch_passes(&self, name: &JobName) -> bool
-        ensures { result ≡ touch_passes (is_named name.now) self.now }
+    fn new_eval_passes(&self, name: &JobName) -> bool
+        ensures { result ≡ new_evals_pass (is_named name.now) self.now }
     {
         self.ranges();
         let has_row = self.job(name).is_some();
@@ -100,7 +100,7 @@ impl Cluster {
         match self.job(name) {
             None => Some(Refusal::UnknownJob),
             Some(job) if job.stopped => Some(Refusal::JobStopped),
-            Some(_) if self.touch_passes(name) => Some(Refusal::TableFull),
+            Some(_) if self.new_eval_passes(name) => Some(Refusal::TableFull),
             Some(_) => None,
         }
     }
@@ -111,7 +111,7 @@ impl Cluster {
     {
         match self.job(name) {
             None => Some(Refusal::UnknownJob),
-            Some(_) if self.touch_passes(name) => Some(Refusal::TableFull),
+            Some(_) if self.new_eval_passes(name) => Some(Refusal::TableFull),
             Some(_) => None,
         }
     }
@@ -179,7 +179,7 @@ impl Cluster {
     /// Why the state refuses a command, if it does.
     pub(crate) fn admission(&self, command: &Command) -> Result<Option<Refusal>, NoMemory>
         ensures ok { IfOk result (λ r. r ≡ admission self.now command.now) }
-        ensures memory { OnErr result (AdmissionMayLack self.now command.now) }
+        ensures memory { OnErr result (AdmissionMayEndOutOfMemory self.now command.now) }
     {
         match command {
             Command::Noop => Ok(None),

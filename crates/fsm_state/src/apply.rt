@@ -1,8 +1,8 @@
 //! The effect of each command.
 ghost use Rattle.std.specs.Prelude.{◌≡◌, ◌≢◌, ◌+◌, ◌<◌, ◌^◌, None, OnOk, OnErr};
-ghost use Rattle.cluster_model.specs.Words.{job_of, node_of, eval_of};
-ghost use Rattle.cluster_model.specs.Effect.{applied, touched, is_named, with_job, without_job, without_node, without_word, unreached, downed, with_drain, without_drain, migrated, with_status, planned, reported};
-ghost use Rattle.fsm_state.specs.Memory.{EffectMayLack};
+ghost use Rattle.fsm_model.specs.Words.{job_of, node_of, eval_of};
+ghost use Rattle.fsm_model.specs.Effect.{applied, evaluations_created, is_named, with_job_row, with_job_stopped, node_down, disconnect, unreached, downed, drain_node, drain_done, migrate, eval_status, planned, reported};
+ghost use Rattle.fsm_state.specs.Memory.{EffectMayEndOutOfMemory};
 
 mod allocs;
 mod evals;
@@ -24,22 +24,24 @@ impl Cluster {
     fn job_put(&mut self, entry: EntryIndex, spec: &JobSpec) -> Result<(), NoMemory>
         requires { entry ≡ self.old.count }
         ensures { OnOk result (
-            self.new ≡ touched (is_named spec.now.name) (with_job spec.now self.old)) }
+            self.new ≡ evaluations_created (is_named spec.now.name)
+            (with_job_row spec.now self.old)) }
     {
-        self.make_job(spec)?;
-        self.touch(entry, &spec.name)
+        self.put_job_row(spec)?;
+        self.create_evaluation(entry, &spec.name)
     }
 
     /// Stops a job, and touches it.
     fn job_stop(&mut self, entry: EntryIndex, name: &JobName) -> Result<(), NoMemory>
         requires { entry ≡ self.old.count }
         ensures ok { OnOk result (
-            self.new ≡ touched (is_named name.now) (without_job name.now self.old)) }
+            self.new ≡ evaluations_created (is_named name.now)
+            (with_job_stopped name.now self.old)) }
         ensures memory { OnErr result (job_of name.now self.old ≢ None) }
     {
         self.ranges();
-        self.end_job(name)?;
-        self.touch(entry, name)
+        self.stop_job_row(name)?;
+        self.create_evaluation(entry, name)
     }
 
     /// A node is not heard of: its row is of this status, and what is pending, running or unknown
@@ -66,13 +68,13 @@ impl Cluster {
         self.ranges();
         let names = self.jobs_on(number)?;
         self.set_unreached(number, NodeStatus::Down, ClientState::Lost)?;
-        self.touch_all(entry, &names)
+        self.create_evaluations(entry, &names)
     }
 
     /// A node's loss. Without a row of the node nothing changes.
     fn node_down(&mut self, entry: EntryIndex, number: NodeId) -> Result<(), NoMemory>
         requires { entry ≡ self.old.count }
-        ensures ok { OnOk result (self.new ≡ without_node number self.old) }
+        ensures ok { OnOk result (self.new ≡ node_down number self.old) }
         ensures memory { OnErr result (node_of number self.old ≢ None) }
     {
         if self.node(number).is_none() {
@@ -84,7 +86,7 @@ impl Cluster {
     /// A node is disconnected: what is pending or running on it is unknown, and no job is touched.
     /// Without a row of the node nothing changes.
     fn disconnect(&mut self, number: NodeId) -> Result<(), NoMemory>
-        ensures ok { OnOk result (self.new ≡ without_word number self.old) }
+        ensures ok { OnOk result (self.new ≡ disconnect number self.old) }
         ensures memory { OnErr result (node_of number self.old ≢ None) }
     {
         match self.node(number) {
@@ -94,8 +96,8 @@ impl Cluster {
     }
 
     /// Begins to empty a node.
-    fn begin_drain(&mut self, number: NodeId, force: bool) -> Result<(), NoMemory>
-        ensures ok { OnOk result (self.new ≡ with_drain number force self.old) }
+    fn drain_node(&mut self, number: NodeId, force: bool) -> Result<(), NoMemory>
+        ensures ok { OnOk result (self.new ≡ drain_node number force self.old) }
         ensures memory { OnErr result (node_of number self.old ≢ None) }
     {
         self.ranges();
@@ -103,8 +105,8 @@ impl Cluster {
     }
 
     /// Ends the emptying of a node.
-    fn end_drain(&mut self, number: NodeId) -> Result<(), NoMemory>
-        ensures ok { OnOk result (self.new ≡ without_drain number self.old) }
+    fn drain_done(&mut self, number: NodeId) -> Result<(), NoMemory>
+        ensures ok { OnOk result (self.new ≡ drain_done number self.old) }
         ensures memory { OnErr result (node_of number self.old ≢ None) }
     {
         self.ranges();
@@ -114,30 +116,30 @@ impl Cluster {
     /// Marks allocations, and touches their jobs.
     fn migrate(&mut self, entry: EntryIndex, ids: &[AllocId]) -> Result<(), NoMemory>
         requires { entry ≡ self.old.count }
-        ensures { OnOk result (self.new ≡ migrated ids.now self.old) }
+        ensures { OnOk result (self.new ≡ migrate ids.now self.old) }
     {
         self.ranges();
         let names = self.jobs_of(ids)?;
         self.mark_all(ids)?;
-        self.touch_all(entry, &names)
+        self.create_evaluations(entry, &names)
     }
 
     /// Touches a job.
     fn eval_put(&mut self, entry: EntryIndex, name: &JobName) -> Result<(), NoMemory>
         requires { entry ≡ self.old.count }
-        ensures ok { OnOk result (self.new ≡ touched (is_named name.now) self.old) }
+        ensures ok { OnOk result (self.new ≡ evaluations_created (is_named name.now) self.old) }
         ensures memory { OnErr result (job_of name.now self.old ≢ None) }
     {
-        self.touch(entry, name)
+        self.create_evaluation(entry, name)
     }
 
     /// Sets the status of an evaluation.
     fn eval_status(&mut self, id: EvalId, change: &StatusChange) -> Result<(), NoMemory>
-        ensures ok { OnOk result (self.new ≡ with_status id change.now self.old) }
+        ensures ok { OnOk result (self.new ≡ eval_status id change.now self.old) }
         ensures memory { OnErr result (eval_of id self.old ≢ None) }
     {
         self.ranges();
-        self.settle(id, change)
+        self.set_eval_status(id, change)
     }
 
     /// Stops what a plan stops, and then makes what it places.
@@ -161,8 +163,8 @@ impl Cluster {
         ensures { OnOk result (self.new ≡ reported node reports.now self.old) }
     {
         self.ranges();
-        let names = self.take_reports(node, reports)?;
-        self.touch_all(entry, &names)
+        let names = self.apply_reports(node, reports)?;
+        self.create_evaluations(entry, &names)
     }
 
     /// Applies a command, whether or not the state admits it. Without memory the value is fit only
@@ -170,7 +172,7 @@ impl Cluster {
     pub(crate) fn execute(&mut self, command: &Command) -> Result<(), NoMemory>
         requires { self.old.count + 1 < 2 ^ 40 }
         ensures ok { OnOk result (self.new ≡ applied self.old command.now) }
-        ensures memory { OnErr result (EffectMayLack self.old command.now) }
+        ensures memory { OnErr result (EffectMayEndOutOfMemory self.old command.now) }
     {
         let entry = self.advance();
         match command {
@@ -180,8 +182,8 @@ impl Cluster {
             Command::NodePut(spec) => self.make_node(spec),
             Command::NodeDown(number) => self.node_down(entry, *number),
             Command::Disconnect(number) => self.disconnect(*number),
-            Command::Drain(number, force) => self.begin_drain(*number, *force),
-            Command::DrainDone(number) => self.end_drain(*number),
+            Command::Drain(number, force) => self.drain_node(*number, *force),
+            Command::DrainDone(number) => self.drain_done(*number),
             Command::Migrate(ids) => self.migrate(entry, ids.as_slice()),
             Command::EvalPut(name) => self.eval_put(entry, name),
             Command::EvalStatus(id, change) => self.eval_status(*id, change),

@@ -5,9 +5,9 @@ ghost use Rattle.fsm_tables.specs.Claims.{claim_of, claims, used, is_live};
 ghost use Rattle.fsm_tables.specs.LiveNames.{live_named};
 ghost use Rattle.fsm_tables.specs.Lookups.{lives_for, lives_on, is_active_on, GivesRows};
 ghost use Rattle.fsm_tables.specs.TableRows.{TablesFit};
-ghost use Rattle.cluster_model.specs.Words.{no_rows, same_alloc, job_of, node_of, eval_of, alloc_of};
-ghost use Rattle.cluster_model.specs.Effect.{with_next_count};
-ghost use Rattle.cluster_model.specs.Safe.{are_distinct};
+ghost use Rattle.fsm_model.specs.Words.{no_rows, same_alloc, job_of, node_of, eval_of, alloc_of};
+ghost use Rattle.fsm_model.specs.Effect.{with_next_count};
+ghost use Rattle.fsm_model.specs.Safe.{are_distinct};
 ghost use Rattle.fsm_state.specs.Inner.Alone.{is_free_but, is_name_free};
 ghost use Rattle.fsm_state.specs.Inner.Steps.{rows_of, put_job, put_node, put_eval, put_alloc};
 
@@ -36,7 +36,7 @@ impl Model for Cluster {
     ghost use Rattle.std.specs.Prelude.{T as Holds};
     ghost use Rattle.rows.specs.State.{State};
     ghost use Rattle.fsm_tables.specs.Claims.{claims};
-    ghost use Rattle.cluster_model.specs.Safe.{are_distinct};
+    ghost use Rattle.fsm_model.specs.Safe.{are_distinct};
 
     ghost Value = { State };
 

@@ -6,10 +6,10 @@ mod admission;
 mod apply;
 mod cluster;
 mod lists;
+mod new_evaluations;
 mod replicated;
 mod room;
 mod text;
-mod touch;
 
 pub use admission::plans::may_hold;
 pub use admission::touching::after_reports;

@@ -1,9 +1,9 @@
 //! The replicated state as a machine.
 ghost use Rattle.std.specs.Prelude.{◌≡◌, ◌+◌, ◌<◌, ◌^◌, IfOk, OnOk, OnErr};
-ghost use Rattle.machine_model.specs.Meaning.{IsStateOf, IsCommandOf};
-ghost use Rattle.fsm_state.specs.Memory.{AdmissionMayLack, EffectMayLack};
-ghost use Rattle.cluster_model.specs.ClusterMachine.{cluster_meaning};
-ghost use Rattle.cluster_model.proofs.ClusterMachine.{cluster_lawful};
+ghost use Rattle.machine_model.specs.MachineSpec.{IsStateOf, IsCommandOf};
+ghost use Rattle.fsm_state.specs.Memory.{AdmissionMayEndOutOfMemory, EffectMayEndOutOfMemory};
+ghost use Rattle.fsm_model.specs.ClusterMachine.{cluster_spec};
+ghost use Rattle.fsm_model.proofs.ClusterMachine.{cluster_lawful};
 
 use crate::cluster::Cluster;
 use crate::text::has_text;
@@ -15,7 +15,7 @@ use std::alloc::Global;
 impl Machine for Cluster {
     type Command = Command;
 
-    ghost meaning = { cluster_meaning };
+    ghost spec = { cluster_spec };
 
     ghost lawful = { cluster_lawful };
 
@@ -38,17 +38,17 @@ impl Machine for Cluster {
 
     fn apply(&mut self, command: &Command) -> Result<(), NoMemory>
         requires { self.old.count + 1 < 2 ^ 40 }
-        ensures ok { OnOk result (self.new ≡ cluster_meaning.applied self.old command.now) }
-        ensures memory { OnErr result (EffectMayLack self.old command.now) }
+        ensures ok { OnOk result (self.new ≡ cluster_spec.applied self.old command.now) }
+        ensures memory { OnErr result (EffectMayEndOutOfMemory self.old command.now) }
     {
         self.execute(command)
     }
 
     fn admits(&self, command: &Command) -> Result<Option<Refusal>, NoMemory>
-        ensures ok { IfOk result (λ why. why ≡ cluster_meaning.admission self.now command.now) }
-        ensures memory { OnErr result (AdmissionMayLack self.now command.now) }
-        ensures fits { IsStateOf cluster_meaning self.now }
-        ensures command_fits { IsCommandOf cluster_meaning command.now }
+        ensures ok { IfOk result (λ why. why ≡ cluster_spec.admission self.now command.now) }
+        ensures memory { OnErr result (AdmissionMayEndOutOfMemory self.now command.now) }
+        ensures fits { IsStateOf cluster_spec self.now }
+        ensures command_fits { IsCommandOf cluster_spec command.now }
     {
         self.fits();
         has_text(command);

@@ -3,7 +3,7 @@ use Rattle.std.proofs.Common.{◌≡◌, ℕ, Option, Some, None, length, refl, 
 use Rattle.rows.specs.declared.actor.Actor.{Actor}
 use Rattle.rows.specs.declared.actor.Actor.TheVariants.{Server, Client}
 use Rattle.rows.specs.declared.command.Command.{Command}
-use Rattle.machine_model.specs.Meaning.{Meaning}
+use Rattle.machine_model.specs.MachineSpec.{MachineSpec}
 use Rattle.wire.specs.Messages.{Message as WireMessage}
 use Rattle.wire.specs.Frames.{message_text}
 use Rattle.wire.specs.declared.body.Body.{Body}
@@ -16,7 +16,7 @@ use Rattle.group_model.specs.Messages.{OfLog, Service, ServiceMessage, BetweenSe
 use Rattle.group_frames.specs.GroupFrames.{service_between, MessagesHaveOneFrame}
 
 -- the body that says a message of the log
-abbrev body_of : {S : Type 0} → Meaning S Command → ℕ → Said Command → Body S Command
+abbrev body_of : {S : Type 0} → MachineSpec S Command → ℕ → Said Command → Body S Command
 body_of m term (VoteRequest index its_last) = bodies.VoteRequest (record { term = term; last_index = index; last_term = its_last })
 body_of m term (VoteReply asked granted) = bodies.VoteReply (record { term = term; asked = asked; granted = granted })
 body_of m term (Append prev prev_term commit entries) =
@@ -67,7 +67,7 @@ module _ {S : Type 0} where
   service_is (Server server) (Client client) (bodies.Told kind refused) y h = ap read_of (sym (same_service h))
   service_is from to b y h = absurd (no_service h)
 
-module _ {S : Type 0} (m : Meaning S Command) where
+module _ {S : Type 0} (m : MachineSpec S Command) where
   abbrev says_it : Body S Command → Message Command → Type 0
   says_it b x = body_of m x.term x.body ≡ b
 

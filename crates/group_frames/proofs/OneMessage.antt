@@ -3,7 +3,7 @@ use Rattle.std.proofs.Common.{◌≡◌, ℕ, Option, Some, None, List, [], ◌+
 use Rattle.rows.specs.declared.actor.Actor.{Actor}
 use Rattle.rows.specs.declared.actor.Actor.TheVariants.{Server}
 use Rattle.rows.specs.declared.command.Command.{Command}
-use Rattle.machine_model.specs.Meaning.{Meaning, LawfulMachine}
+use Rattle.machine_model.specs.MachineSpec.{MachineSpec, LawfulMachine}
 use Rattle.wire.specs.Messages.{Message as WireMessage}
 use Rattle.wire.specs.Frames.{MessageFits, message_text}
 use Rattle.wire.specs.declared.body.Body.{Body}
@@ -31,7 +31,7 @@ no_message : {a : Message Command} → (let x : Option (Message Command) = None 
 no_message h = cc
 
 -- what is of the log is nothing beside it
-apart : {S : Type 0} (m : Meaning S Command) (i j : ℕ) (body : Body S Command) (x : Message Command) (y : ServiceMessage) → Says m i j body x → service_between (Server i) (Server j) body ≡ Some y → ⊥
+apart : {S : Type 0} (m : MachineSpec S Command) (i j : ℕ) (body : Body S Command) (x : Message Command) (y : ServiceMessage) → Says m i j body x → service_between (Server i) (Server j) body ≡ Some y → ⊥
 apart m i j (bodies.VoteRequest v) x y p h = no_service h
 apart m i j (bodies.VoteReply v) x y p h = no_service h
 apart m i j (bodies.Append a) x y p h = no_service h
@@ -47,7 +47,7 @@ apart m i j (bodies.List index rows) x y p h = no_message p
 apart m i j (bodies.Report items) x y p h = no_message p
 apart m i j (bodies.Told kind refused) x y p h = no_message p
 
-module _ {S : Type 0} (m : Meaning S Command) where
+module _ {S : Type 0} (m : MachineSpec S Command) where
   same_at : (x : Message Command) (b : Said Command) → SameSaid m x x b b
   same_at x (Install a) = record { from = refl; to = refl; term = refl; index = refl; last = refl; state = refl }
   same_at x b = refl
@@ -80,7 +80,7 @@ module _ {S : Type 0} (m : Meaning S Command) where
   log_is_no_service r x y p h =
       apart m x.from x.to r.body x y p.said (subst (λ (a : Actor). service_between a (Server x.to) r.body ≡ Some y) p.from (subst (λ (a : Actor). service_between r.from a r.body ≡ Some y) p.to h))
 
-module _ {S : Type 0} (m : Meaning S Command) (law : LawfulMachine m) where
+module _ {S : Type 0} (m : MachineSpec S Command) (law : LawfulMachine m) where
   pub one_text : (r q : WireMessage S Command) → MessageFits m r → MessageFits m q → message_text m r ≡ message_text m q → r ≡ q
   one_text r q fr fq same = frames_apart m law r q [] [] fr fq (ap (λ (t : List ℕ). t ++ []) same)
 

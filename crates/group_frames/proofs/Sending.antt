@@ -3,14 +3,14 @@ use Rattle.std.proofs.Common.{List, [], ◌∷◌, ◌++◌, map, sym}
 use Rattle.std.proofs.lemmas.List.{append-nil}
 use Rattle.std.specs.List.{AllZip}
 use Rattle.rows.specs.declared.command.Command.{Command}
-use Rattle.machine_model.specs.Meaning.{Meaning}
+use Rattle.machine_model.specs.MachineSpec.{MachineSpec}
 use Rattle.wire.specs.Frames.{Frame}
 use Rattle.raft_model.specs.Messages.{Message}
 use Rattle.raft_core.specs.Frames.{Sends, FrameCarries}
 use Rattle.group_model.specs.Messages.{OfLog}
 use Rattle.group_frames.specs.GroupFrames.{CarriesGroup, SendsGroup}
 
-module _ {S : Type 0} (m : Meaning S Command) where
+module _ {S : Type 0} (m : MachineSpec S Command) where
   -- nothing is sent
   pub sends_nothing : (all : List Frame) → SendsGroup m all all []
   sends_nothing all = record { frames = []; added = sym (append-nil all); carry = tt }

@@ -7,7 +7,7 @@ use Rattle.rows.specs.declared.worker.WorkerRequest.{WorkerRequest}
 use Rattle.rows.specs.declared.worker.WorkerRequest.TheVariants as requests
 use Rattle.rows.specs.declared.worker.WorkerResponse.{WorkerResponse}
 use Rattle.rows.specs.declared.worker.WorkerResponse.TheVariants as responses
-use Rattle.machine_model.specs.Meaning.{Meaning}
+use Rattle.machine_model.specs.MachineSpec.{MachineSpec}
 use Rattle.wire.specs.Messages.{Message as WireMessage, kind_of, is_of_log, is_another_server, are_servers, may_go}
 use Rattle.wire.specs.declared.body.Body.{Body}
 use Rattle.wire.specs.declared.body.Body.TheVariants as bodies
@@ -16,7 +16,7 @@ use Rattle.raft_core.specs.Frames.{Means}
 use Rattle.group_model.specs.Messages.{GroupMessage, OfLog, Service, ServiceMessage, BetweenServers, ToServer, ToClient, Asks, Answers, Register, Heartbeat, Pull, ReportStates, Listing, Told}
 use Rattle.group_frames.specs.GroupFrames.{service_of, IsGroupFrame, IsNoInstall, FramesAreOfSome}
 
-module _ {S : Type 0} (m : Meaning S Command) where
+module _ {S : Type 0} (m : MachineSpec S Command) where
   -- what one server says to another by a kind of the log
   said_between : (i j : ℕ) (body : Body S Command) → IsNoInstall body → is_of_log (kind_of body) ≡ true → (said : Message Command) × Means m (record { from = Server i; to = Server j; body = body }) said
   said_between i j (bodies.VoteRequest v) plain h = (record { from = i; to = j; term = v.term; body = VoteRequest v.last_index v.last_term }, record { from = refl; to = refl; said = refl })

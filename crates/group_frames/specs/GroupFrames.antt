@@ -5,7 +5,7 @@ use Rattle.std.specs.List.{AllZip}
 use Rattle.rows.specs.declared.actor.Actor.{Actor}
 use Rattle.rows.specs.declared.actor.Actor.TheVariants.{Server, Client}
 use Rattle.rows.specs.declared.command.Command.{Command}
-use Rattle.machine_model.specs.Meaning.{Meaning}
+use Rattle.machine_model.specs.MachineSpec.{MachineSpec}
 use Rattle.machine_model.specs.declared.entry.Entry.{Entry}
 use Rattle.wire.specs.Messages.{Message as WireMessage}
 use Rattle.wire.specs.Frames.{Frame, MessageFits, IsFrame, message_text}
@@ -34,14 +34,14 @@ abbrev pub service_of : {S C : Type 0} → WireMessage S C → Option ServiceMes
 service_of read = service_between read.from read.to read.body
 
 -- the bytes are the frame of a message beside the log's
-pub record IsServiceFrame {S C : Type 0} (m : Meaning S C) (bytes : List ℕ) (message : ServiceMessage) : Type 0 where
+pub record IsServiceFrame {S C : Type 0} (m : MachineSpec S C) (bytes : List ℕ) (message : ServiceMessage) : Type 0 where
   pub read : WireMessage S C
   pub fits : MessageFits m read
   pub text : bytes ≡ message_text m read
   pub means : service_of read ≡ Some message
 
 -- the bytes are the message's frame
-abbrev pub IsGroupFrame : {S : Type 0} → Meaning S Command → List ℕ → GroupMessage → Type 0
+abbrev pub IsGroupFrame : {S : Type 0} → MachineSpec S Command → List ℕ → GroupMessage → Type 0
 IsGroupFrame m bytes (OfLog message) = IsFrameOf m bytes message
 IsGroupFrame m bytes (Service message) = IsServiceFrame m bytes message
 
@@ -56,13 +56,13 @@ receiver_of (OfLog message) = Server message.to
 receiver_of (Service message) = service_receiver message
 
 -- a frame on its way carries the message, to its receiver
-pub record CarriesGroup {S : Type 0} (m : Meaning S Command) (frame : Frame) (message : GroupMessage) : Type 0 where
+pub record CarriesGroup {S : Type 0} (m : MachineSpec S Command) (frame : Frame) (message : GroupMessage) : Type 0 where
   pub to : frame.to ≡ receiver_of message
   pub bytes : IsGroupFrame m frame.bytes message
 
 -- to the frames that were there, those of the messages were added, one for one and in order, and
 -- nothing else
-pub record SendsGroup {S : Type 0} (m : Meaning S Command) (before after : List Frame) (messages : List GroupMessage) : Type 0 where
+pub record SendsGroup {S : Type 0} (m : MachineSpec S Command) (before after : List Frame) (messages : List GroupMessage) : Type 0 where
   pub frames : List Frame
   pub added : after ≡ before ++ frames
   pub carry : AllZip (CarriesGroup m) frames messages
@@ -71,7 +71,7 @@ pub record SendsGroup {S : Type 0} (m : Meaning S Command) (before after : List 
 
 -- Two Installs of one frame, which has of the entries that they cover the number, the last one's
 -- term and the state after them: the entries themselves may be others.
-pub record SameInstall {S C : Type 0} (m : Meaning S C) (x y : Message C) (a b : List (Entry C)) : Type 0 where
+pub record SameInstall {S C : Type 0} (m : MachineSpec S C) (x y : Message C) (a b : List (Entry C)) : Type 0 where
   pub from : x.from ≡ y.from
   pub to : x.to ≡ y.to
   pub term : x.term ≡ y.term
@@ -80,17 +80,17 @@ pub record SameInstall {S C : Type 0} (m : Meaning S C) (x y : Message C) (a b :
   pub state : state_after m a ≡ state_after m b
 
 -- two messages of the log, of these bodies, are one, but for the entries that Installs cover
-abbrev pub SameSaid : {S C : Type 0} → Meaning S C → Message C → Message C → Said C → Said C → Type 0
+abbrev pub SameSaid : {S C : Type 0} → MachineSpec S C → Message C → Message C → Said C → Said C → Type 0
 SameSaid m x y (Install a) (Install b) = SameInstall m x y a b
 SameSaid m x y _ _ = x ≡ y
 
 -- two messages of the group are
-abbrev pub SameButCovered : {S : Type 0} → Meaning S Command → GroupMessage → GroupMessage → Type 0
+abbrev pub SameButCovered : {S : Type 0} → MachineSpec S Command → GroupMessage → GroupMessage → Type 0
 SameButCovered m (OfLog x) (OfLog y) = SameSaid m x y x.body y.body
 SameButCovered m x y = x ≡ y
 
 -- a frame is of one message at most, but for the entries that an Install covers
-abbrev pub FramesAreOfOne : {S : Type 0} → Meaning S Command → Type 0
+abbrev pub FramesAreOfOne : {S : Type 0} → MachineSpec S Command → Type 0
 FramesAreOfOne m =
     (bytes : List ℕ) (x y : GroupMessage)
     → IsGroupFrame m bytes x → IsGroupFrame m bytes y → SameButCovered m x y
@@ -102,13 +102,13 @@ IsNoInstall _ = Unit {0}
 
 -- A frame that can be read is of some message, but that an Install may have a state that no entries
 -- lead to: its frame is of no message.
-abbrev pub FramesAreOfSome : {S : Type 0} → Meaning S Command → Type 0
+abbrev pub FramesAreOfSome : {S : Type 0} → MachineSpec S Command → Type 0
 FramesAreOfSome {S} m =
     (bytes : List ℕ) (read : WireMessage S Command) → IsFrame m read bytes → IsNoInstall read.body
     → (message : GroupMessage) × IsGroupFrame m bytes message
 
 -- a message has one frame at most
-abbrev pub MessagesHaveOneFrame : {S : Type 0} → Meaning S Command → Type 0
+abbrev pub MessagesHaveOneFrame : {S : Type 0} → MachineSpec S Command → Type 0
 MessagesHaveOneFrame m =
     (message : GroupMessage) (a b : List ℕ)
     → IsGroupFrame m a message → IsGroupFrame m b message → a ≡ b

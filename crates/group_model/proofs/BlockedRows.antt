@@ -12,7 +12,7 @@ use Rattle.std.specs.Cmp.Lexicographic.{nat_list_cmp_total}
 use Rattle.rows.proofs.KeyLaws.{eval_cmp_total}
 use Rattle.fsm_tables.specs.Rows.{by_order, row_of, put}
 use Rattle.fsm_tables.proofs.RowLaws.{row_of-put}
-use Rattle.cluster_model.specs.Words.{is_some_and, job_of, is_blocked}
+use Rattle.fsm_model.specs.Words.{is_some_and, job_of, is_blocked}
 use Rattle.group_model.specs.Blocked.{BlockedEvals, blocked_id, with_blocked, without_blocked, blocked_over, has_new_room, room_with, classes_of, blocked_eval, room_over, with_classes_of}
 use Rattle.fsm_tables.specs.ReservedTables.{without}
 use Rattle.group_model.specs.OneRow.{BlockedFollowEvals, BlockedFollowNodes, BlockedFollowJobs, Replaces, DueByRoom}

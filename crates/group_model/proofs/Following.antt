@@ -10,9 +10,9 @@ use Rattle.rows.specs.Keys.{eval_cmp, eval_id, node_number}
 use Rattle.rows.proofs.KeyLaws.{eval_cmp_total}
 use Rattle.rows.specs.Rising.{is_rising}
 use Rattle.fsm_tables.specs.Rows.{put}
-use Rattle.cluster_model.specs.Words.{is_pending}
+use Rattle.fsm_model.specs.Words.{is_pending}
 use Rattle.group_model.specs.Brokers.{Task, Key, task_id, task_key, eval_key, task_of, carry, tasks_over, tasks_with, HoldsPending}
-use Rattle.group_model.specs.Expiry.{BeatCount, count_node, beat_count_of, is_held, counted_node, beat_counts_over, HoldsHeld}
+use Rattle.group_model.specs.Expiry.{HeartbeatCount, count_node, heartbeat_count_of, is_held, counted_node, heartbeat_counts_over, HoldsHeld}
 use Rattle.group_model.specs.OneRow.{BrokerFollows, CountsFollow}
 use Rattle.group_model.proofs.KeptRows.{With, all_found, rising_back, rising_kept, one_row}
 
@@ -62,11 +62,11 @@ broker_follows es e b rising holds = λ i. record b { tasks = tasks_follow es b.
 
 -- ---- heartbeats
 
-counted_is : (n : Node) (c : BeatCount) → node_number n ≡ count_node c → counted_node n (Some c) ≡ c
+counted_is : (n : Node) (c : HeartbeatCount) → node_number n ≡ count_node c → counted_node n (Some c) ≡ c
 counted_is n c k = λ i. record { node = k i; beats = c.beats }
 
-module _ (find : ℕ → Option BeatCount) where
-  counted : (ns : List Node) (cs : List BeatCount) → map count_node cs ≡ map node_number ns → AllByRecursion (λ c. find (count_node c) ≡ Some c) cs → map (λ n. counted_node n (find n.number)) ns ≡ cs
+module _ (find : ℕ → Option HeartbeatCount) where
+  counted : (ns : List Node) (cs : List HeartbeatCount) → map count_node cs ≡ map node_number ns → AllByRecursion (λ c. find (count_node c) ≡ Some c) cs → map (λ n. counted_node n (find n.number)) ns ≡ cs
   counted [] [] k a = refl
   counted [] (c ∷ cs) k a = absurd (cc)
   counted (n ∷ ns) [] k a = absurd (cc)
@@ -81,17 +81,17 @@ module _ (find : ℕ → Option BeatCount) where
       tails : count_node c ∷ map count_node cs ≡ node_number n ∷ map node_number ns → map count_node cs ≡ map node_number ns
       tails k = cc
 
-module _ (ns : List Node) (cs : List BeatCount) (rising : T (is_rising nat_cmp node_number ns)) (holds : HoldsHeld ns cs) where
+module _ (ns : List Node) (cs : List HeartbeatCount) (rising : T (is_rising nat_cmp node_number ns)) (holds : HoldsHeld ns cs) where
   counts_rise : T (is_rising nat_cmp count_node cs)
   counts_rise =
       rising_back nat_cmp count_node (λ (k : ℕ). k) count_node (λ c. refl) cs
       (subst (λ ks. T (is_rising nat_cmp (λ (k : ℕ). k) ks)) (sym holds) (rising_kept nat_cmp node_number (λ (k : ℕ). k) node_number (λ n. refl) (λ n. is_held n.status) ns rising))
 
   -- over the nodes that they are of the counts stay
-  pub counts_stay : beat_counts_over ns cs ≡ cs
-  counts_stay = counted (λ n. beat_count_of n cs) (filter (λ n. is_held n.status) ns) cs holds (all_found nat_cmp count_node nat_cmp_total cs counts_rise)
+  pub counts_stay : heartbeat_counts_over ns cs ≡ cs
+  counts_stay = counted (λ n. heartbeat_count_of n cs) (filter (λ n. is_held n.status) ns) cs holds (all_found nat_cmp count_node nat_cmp_total cs counts_rise)
 
 pub counts_follow : CountsFollow
 counts_follow ns n cs rising holds =
-    one_row nat_cmp node_number count_node (λ x. counted_node x (beat_count_of x.number cs)) (λ x. refl) (λ x. is_held x.status) nat_cmp_total n ns rising
-    ∙ ap (λ l. With nat_cmp node_number count_node (λ x. counted_node x (beat_count_of x.number cs)) (λ x. refl) (λ x. is_held x.status) n l) (counts_stay ns cs rising holds)
+    one_row nat_cmp node_number count_node (λ x. counted_node x (heartbeat_count_of x.number cs)) (λ x. refl) (λ x. is_held x.status) nat_cmp_total n ns rising
+    ∙ ap (λ l. With nat_cmp node_number count_node (λ x. counted_node x (heartbeat_count_of x.number cs)) (λ x. refl) (λ x. is_held x.status) n l) (counts_stay ns cs rising holds)

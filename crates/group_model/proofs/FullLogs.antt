@@ -1,9 +1,9 @@
 -- Registrations and reports at a full log.
 use Rattle.std.proofs.Common.{◌≡◌, Bool, true, false, cond, not, Some, refl, ap, ◌∙◌}
 use Rattle.rows.specs.declared.refusal.Refusal.TheVariants as refusals
-use Rattle.cluster_model.specs.Admission.{admission}
+use Rattle.fsm_model.specs.Admission.{admission}
 use Rattle.group_model.specs.Inputs.{Act}
-use Rattle.group_model.specs.Desks.{whole_state}
+use Rattle.group_model.specs.Desks.{projected_state}
 use Rattle.group_model.specs.ClientRequests.{proposes_for}
 use Rattle.group_model.specs.FullLogs.{TakenAtFullLog, ExhaustedAtFullLog}
 
@@ -23,4 +23,4 @@ taken_at_full_log me c s kind command d h taken = second _ _ _ _ _ h.leads taken
 
 pub exhausted_at_full_log : ExhaustedAtFullLog
 exhausted_at_full_log me c s kind command d h other =
-    third _ _ _ _ _ h.leads other ∙ ap (λ b. proposes_for me c kind command d (cond b (admission (whole_state s) command) (Some refusals.Exhausted))) h.full
+    third _ _ _ _ _ h.leads other ∙ ap (λ b. proposes_for me c kind command d (cond b (admission (projected_state s) command) (Some refusals.Exhausted))) h.full

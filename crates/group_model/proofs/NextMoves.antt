@@ -13,7 +13,7 @@ use Rattle.rows.proofs.KeyLaws.{alloc_cmp_total}
 use Rattle.rows.proofs.RisingLaws.{keeps_rising}
 use Rattle.rows.proofs.Truth.{is_true}
 use Rattle.fsm_tables.specs.Lookups.{lives_on}
-use Rattle.cluster_model.specs.Words.{State}
+use Rattle.fsm_model.specs.Words.{State}
 use Rattle.group_model.specs.Drains.{same_group, group_moves, firsts, movers, moves_of}
 use Rattle.group_model.proofs.Subs.{Sub, none, keep, skip, sub_filter, sub_take, sub_trans, sub_rising, take_length}
 

@@ -2,7 +2,7 @@
 use Rattle.std.proofs.Common.{List, [], ◌∷◌, refl, inl, inr}
 use Rattle.rows.specs.declared.allocation.AllocId.{AllocId}
 use Rattle.rows.specs.declared.command.AcceptedPlace.{AcceptedPlace}
-use Rattle.cluster_model.specs.Worked.Words.{size, size_with_disk, alloc_id, place, node_row}
+use Rattle.fsm_model.specs.Worked.Words.{size, size_with_disk, alloc_id, place, node_row}
 use Rattle.group_model.specs.Scheduling.{PlanPart}
 use Rattle.group_model.specs.Worked.Scheduling.{Replaced, StaysAsItIs, AllStops, NothingThere, Apart, Together, SmallerFirst, DiskForOne, DiskForTwo, FitsOnce, NothingMore}
 

@@ -15,19 +15,19 @@ use Rattle.rows.specs.declared.worker.ClientRequestKind.TheVariants as kinds
 use Rattle.rows.specs.Reasons.{reason_of}
 use Rattle.raft_model.specs.Rafts.{Raft, is_leader}
 use Rattle.raft_model.specs.Steps.{admission_refusal}
-use Rattle.cluster_model.specs.Words.{State}
+use Rattle.fsm_model.specs.Words.{State}
 use Rattle.rows.specs.NodeStatuses.{is_ready}
-use Rattle.cluster_model.specs.Words.{node_of, is_some_and}
+use Rattle.fsm_model.specs.Words.{node_of, is_some_and}
 use Rattle.fsm_tables.specs.Lookups.{lives_on}
-use Rattle.cluster_model.specs.Effect.{told_all}
-use Rattle.cluster_model.specs.Admission.{admission}
-use Rattle.cluster_model.specs.ClusterMachine.{cluster_meaning}
+use Rattle.fsm_model.specs.Effect.{told_all}
+use Rattle.fsm_model.specs.Admission.{admission}
+use Rattle.fsm_model.specs.ClusterMachine.{cluster_spec}
 use Rattle.rows.specs.declared.listing.LiveState.{LiveState}
 use Rattle.rows.specs.declared.listing.LiveState.TheVariants as live_states
 use Rattle.rows.specs.declared.listing.ListedAllocation.{ListedAllocation}
 use Rattle.group_model.specs.Messages.{ServiceMessage, ToClient, ClientRequest, Register, Heartbeat, Pull, ReportStates, Listing, Told}
-use Rattle.group_model.specs.Expiry.{BeatCount, beat_count_of, with_beat}
-use Rattle.group_model.specs.Desks.{Desk, applied_state, whole_state}
+use Rattle.group_model.specs.Expiry.{HeartbeatCount, heartbeat_count_of, with_heartbeat}
+use Rattle.group_model.specs.Desks.{Desk, applied_state, projected_state}
 use Rattle.group_model.specs.Inputs.{Act, AskPropose, sends}
 
 abbrev pub tells : ℕ → ℕ → ClientRequestKind → Option Refusal → ServiceMessage
@@ -80,18 +80,18 @@ proposes_for me c kind command d None = record {
 abbrev pub writes : ℕ → Raft Command → ℕ → ClientRequestKind → Command → Option Desk → Act
 writes me s c kind command d =
     if not (is_leader s.mode) then answers me c kind (Some (refusals.NotLeader s.known)) d
-    else if is_taken_already (whole_state s) command then answers me c kind None d
-    else proposes_for me c kind command d (admission_refusal cluster_meaning s command)
+    else if is_taken_already (projected_state s) command then answers me c kind None d
+    else proposes_for me c kind command d (admission_refusal cluster_spec s command)
 
 -- ---- a heartbeat, at an open desk
 
-abbrev pub beats_at : ℕ → ℕ → Desk → Option BeatCount → Act
-beats_at me c o None = answers me c kinds.Heartbeat (Some refusals.UnknownNode) (Some o)
-beats_at me c o (Some p) = answers me c kinds.Heartbeat None (Some (record o { beat_counts = with_beat c o.beat_counts }))
+abbrev pub heartbeats_at : ℕ → ℕ → Desk → Option HeartbeatCount → Act
+heartbeats_at me c o None = answers me c kinds.Heartbeat (Some refusals.UnknownNode) (Some o)
+heartbeats_at me c o (Some p) = answers me c kinds.Heartbeat None (Some (record o { heartbeat_counts = with_heartbeat c o.heartbeat_counts }))
 
 abbrev pub takes_heartbeat : ℕ → ℕ → Result Desk Refusal → Option Desk → Act
 takes_heartbeat me c (Err r) d = answers me c kinds.Heartbeat (Some r) d
-takes_heartbeat me c (Ok o) d = beats_at me c o (beat_count_of c o.beat_counts)
+takes_heartbeat me c (Ok o) d = heartbeats_at me c o (heartbeat_count_of c o.heartbeat_counts)
 
 -- ---- Pull: any server answers, from its applied state
 

@@ -14,7 +14,7 @@ use Rattle.rows.specs.declared.worker.AskedRequest.{AskedRequest}
 use Rattle.rows.specs.declared.worker.AskedRequest.TheVariants as asked
 use Rattle.rows.specs.declared.worker.WorkerResponse.{WorkerResponse}
 use Rattle.rows.specs.declared.worker.WorkerResponse.TheVariants.{Delivered, PlanResult, Refused}
-use Rattle.cluster_model.specs.Words.{State, eval_of}
+use Rattle.fsm_model.specs.Words.{State, eval_of}
 use Rattle.group_model.specs.Scheduling.{WorkerPlan, IsPlanFor}
 
 pub data WorkerStep : Type 0 where

@@ -8,10 +8,10 @@ use Rattle.rows.specs.declared.evaluation.Evaluation.{Evaluation}
 use Rattle.rows.specs.Keys.{name_cmp, eval_cmp, job_name, node_number, eval_id}
 use Rattle.rows.specs.Rising.{is_rising}
 use Rattle.fsm_tables.specs.Rows.{put}
-use Rattle.cluster_model.specs.Words.{State}
-use Rattle.cluster_model.specs.Words.{node_of, is_blocked}
+use Rattle.fsm_model.specs.Words.{State}
+use Rattle.fsm_model.specs.Words.{node_of, is_blocked}
 use Rattle.group_model.specs.Brokers.{Broker, HoldsPending, broker_over, broker_with}
-use Rattle.group_model.specs.Expiry.{BeatCount, HoldsHeld, beat_counts_over, beat_counts_with}
+use Rattle.group_model.specs.Expiry.{HeartbeatCount, HoldsHeld, heartbeat_counts_over, heartbeat_counts_with}
 use Rattle.group_model.specs.Blocked.{is_due, is_due_by, room_over, blocked_eval, blocked_over, blocked_with_eval, blocked_with_node, blocked_with_job}
 
 -- the broker, at a row put among evaluations of which it holds the pending ones
@@ -21,8 +21,8 @@ BrokerFollows = (evals : List Evaluation) (e : Evaluation) (b : Broker) → T (i
 
 -- the counts of heartbeats, at a row put among nodes of which they are of those held
 abbrev pub CountsFollow : Type 0
-CountsFollow = (nodes : List Node) (n : Node) (counts : List BeatCount) → T (is_rising nat_cmp node_number nodes) → HoldsHeld nodes counts →
-    beat_counts_over (put nat_cmp node_number n nodes) counts ≡ beat_counts_with n counts
+CountsFollow = (nodes : List Node) (n : Node) (counts : List HeartbeatCount) → T (is_rising nat_cmp node_number nodes) → HoldsHeld nodes counts →
+    heartbeat_counts_over (put nat_cmp node_number n nodes) counts ≡ heartbeat_counts_with n counts
 
 -- the blocked evaluations, at a row put among a state's evaluations
 abbrev pub BlockedFollowEvals : Type 0

@@ -16,10 +16,10 @@ use Rattle.rows.specs.declared.command.AcceptedPlace.{AcceptedPlace}
 use Rattle.fsm_tables.specs.Claims.{Claim, claims, used}
 use Rattle.fsm_tables.specs.LiveNames.{live_named}
 use Rattle.fsm_tables.specs.Lookups.{lives_for}
-use Rattle.cluster_model.specs.Words.{State, job_of, node_of, is_some_and}
+use Rattle.fsm_model.specs.Words.{State, job_of, node_of, is_some_and}
 use Rattle.rows.specs.Sizes.{plus, fits, same_size}
-use Rattle.cluster_model.specs.Effect.{stop}
-use Rattle.cluster_model.specs.Admission.{may_hold}
+use Rattle.fsm_model.specs.Effect.{stop}
+use Rattle.fsm_model.specs.Admission.{may_hold}
 use Rattle.group_model.specs.Acceptance.{place_claims}
 
 -- ---- the names that a job wants

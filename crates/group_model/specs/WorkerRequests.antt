@@ -18,7 +18,7 @@ use Rattle.rows.specs.Reasons.{reason_of}
 use Rattle.rows.specs.Changes.{change_of}
 use Rattle.raft_model.specs.Rafts.{Raft}
 use Rattle.raft_model.specs.Steps.{admission_refusal}
-use Rattle.cluster_model.specs.ClusterMachine.{cluster_meaning}
+use Rattle.fsm_model.specs.ClusterMachine.{cluster_spec}
 use Rattle.group_model.specs.Messages.{BetweenServers, WorkerMessage, Asks, Answers}
 use Rattle.group_model.specs.Brokers.{Given, Nothing, UsedUp, Gives, deliver, outstanding, with_ack, with_nack}
 use Rattle.group_model.specs.Desks.{Desk, applied_state}
@@ -65,7 +65,7 @@ finishes_by me from id token c o None = record {
 abbrev pub finishes_of : ℕ → Raft Command → ℕ → EvalId → Token → EvalOutcome → Desk → Result ℕ Refusal → Act
 finishes_of me s from id token outcome o (Err r) = refuses me from (asked.Finish id token) (Some o) r
 finishes_of me s from id token outcome o (Ok wait) =
-    finishes_by me from id token (commands.EvalStatus id (change_of outcome)) o (admission_refusal cluster_meaning s (commands.EvalStatus id (change_of outcome)))
+    finishes_by me from id token (commands.EvalStatus id (change_of outcome)) o (admission_refusal cluster_spec s (commands.EvalStatus id (change_of outcome)))
 
 abbrev pub finishes : ℕ → Raft Command → ℕ → EvalId → Token → EvalOutcome → Result Desk Refusal → Option Desk → Act
 finishes me s from id token outcome (Err r) d = refuses me from (asked.Finish id token) d r

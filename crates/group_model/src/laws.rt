@@ -17,7 +17,7 @@ pub fn reasons_are_numbered()
 /// all rows would give.
 /// - `broker`: of a broker that held the pending evaluations.
 /// - `counts`: of the numbers of heartbeats of the nodes that are not down.
-pub fn one_row_follows()
+pub fn one_row_changes_the_desk()
     ensures broker { BrokerFollows }
     ensures counts { CountsFollow }
 {}

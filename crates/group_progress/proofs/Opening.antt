@@ -14,7 +14,7 @@ use Rattle.raft_progress.specs.Recovery.{AllUp, HasRoom, Settled, CanSettle, eve
 use Rattle.raft_progress.proofs.Leaders.{leader_facts}
 use Rattle.raft_progress.proofs.Never.{never_stuck}
 use Rattle.raft_progress.proofs.Recovering.{can_recover}
-use Rattle.cluster_model.specs.ClusterMachine.{cluster_meaning}
+use Rattle.fsm_model.specs.ClusterMachine.{cluster_spec}
 use Rattle.group_model.specs.Inputs as inputs
 use Rattle.group_model.specs.Worlds.{World, Event, Deliver, AtServer, Run, more, IsEvent, happens, raft_of, raft_part}
 use Rattle.group_safety.specs.Desks.{has_own, may_serve, DeskIs}
@@ -22,7 +22,7 @@ use Rattle.group_safety.proofs.Lists.{map_get}
 use Rattle.group_safety.proofs.Projections.{projection}
 use Rattle.group_safety.proofs.DeskRuns.{desks}
 use Rattle.group_progress.specs.GroupRecovery.{GroupRecovery, no_event, a_delivery, a_timeout, a_beat, GroupAfterRestarts, no_restart, a_restart, HasOpenDesk, GroupCanSettle, GroupCanRecover}
-use Rattle.cluster_model.proofs.ClusterMachine.{cluster_lawful}
+use Rattle.fsm_model.proofs.ClusterMachine.{cluster_lawful}
 use Rattle.group_progress.proofs.Lifts.{follows, restarts_to}
 
 -- a log that ends in an entry of this term has one
@@ -56,7 +56,7 @@ module _ (n : ℕ) (nodes : List NodeSpec) where
   open_desk : (i : ℕ) (v : World) → GroupReached n nodes v → Settled i (raft_of v) → HasOpenDesk i v
   open_desk i v r l =
       let q = projection n nodes r.events r.past v r.run in
-      let f = leader_facts cluster_meaning n (raft_of v) (record { events = q.log_events; past = q.log_past; run = q.run }) i l.server l.next l.match l.here l.mode in
+      let f = leader_facts cluster_spec n (raft_of v) (record { events = q.log_events; past = q.log_past; run = q.run }) i l.server l.next l.match l.here l.mode in
       let at = map_get raft_part v.servers i l.server l.here in
       let d : DeskIs at.0 = desks n nodes r.events r.past v r.run (length r.past) i at.0 (record { world = v; world_is = get-last r.past v; here = at.1 }) in
       let own : has_own l.server.term (take l.server.commit l.server.log) ≡ true =
@@ -76,7 +76,7 @@ module _ (n : ℕ) (nodes : List NodeSpec) where
       applied : (j : ℕ) → j < n → Q j ≡ true → (s : Raft Command) × (slice_get z.servers j ≡ Some s) × (is_up s.mode ≡ true) × (length settled.server.log ≤ s.commit)
 
     -- a group settles as its log does
-    can_settle : (w : World) → GroupReached n nodes w → CanSettle cluster_meaning n Q (raft_of w) → GroupCanSettle n Q w
+    can_settle : (w : World) → GroupReached n nodes w → CanSettle cluster_spec n Q (raft_of w) → GroupCanSettle n Q w
     can_settle w r c =
         let f = follows c.who w c.timeouts c.beats c.world c.recovery in
         let all : AllSettled c.who c.server (raft_of f.world) = subst (λ z. AllSettled c.who c.server z) (sym f.log) (record { settled = c.settled; keeps = c.keeps; applied = c.applied }) in
@@ -101,12 +101,12 @@ module _ (n : ℕ) (nodes : List NodeSpec) where
   pub settles : (events : List Event) (past : List World) (w : World) → Run n nodes events past w → 2 ≤ n → (Q : ℕ → Bool) → Quorum n Q → AllUp n Q (raft_of w) → HasRoom n Q (raft_of w) → GroupCanSettle n Q w
   settles events past w run two Q quorum up room =
       let p = projection n nodes events past w run in
-      can_settle Q w (record { events = events; past = past; run = run }) (never_stuck cluster_meaning cluster_lawful n p.log_events p.log_past (raft_of w) p.run two Q quorum up room)
+      can_settle Q w (record { events = events; past = past; run = run }) (never_stuck cluster_spec cluster_lawful n p.log_events p.log_past (raft_of w) p.run two Q quorum up room)
 
   pub recovers : (events : List Event) (past : List World) (w : World) → Run n nodes events past w → 2 ≤ n → HasRoom n everybody (raft_of w) → GroupCanRecover n w
   recovers events past w run two room =
       let p = projection n nodes events past w run in
-      let c = can_recover cluster_meaning cluster_lawful n p.log_events p.log_past (raft_of w) p.run two room in
+      let c = can_recover cluster_spec cluster_lawful n p.log_events p.log_past (raft_of w) p.run two room in
       let k = restarts_to w c.restarts c.world c.restarted in
       record {
         restarts = c.restarts;
@@ -114,5 +114,5 @@ module _ (n : ℕ) (nodes : List NodeSpec) where
         restarted = k.restarted;
         few_restarts = c.few_restarts;
         settles = can_settle everybody k.world (restarts_reached w c.restarts k.world (record { events = events; past = past; run = run }) k.restarted)
-            (subst (λ z. CanSettle cluster_meaning n everybody z) (sym k.log) c.settles);
+            (subst (λ z. CanSettle cluster_spec n everybody z) (sym k.log) c.settles);
       }

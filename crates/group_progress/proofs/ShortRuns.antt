@@ -8,7 +8,7 @@ use Rattle.raft_safety.proofs.Places.{get-some, push_length}
 use Rattle.raft_safety.proofs.Runs as runs
 use Rattle.raft_progress.specs.Recovery.{HasRoom}
 use Rattle.raft_progress.proofs.Room.{short_has_room}
-use Rattle.cluster_model.specs.ClusterMachine.{cluster_meaning}
+use Rattle.fsm_model.specs.ClusterMachine.{cluster_spec}
 use Rattle.group_model.specs.Worlds.{World, Event, Run, raft_of, raft_event}
 use Rattle.group_safety.specs.Claims.{Projection, Beside}
 use Rattle.group_safety.proofs.GroupRuns.{run_even}
@@ -37,5 +37,5 @@ module _ (n : ℕ) (nodes : List NodeSpec) (events : List Event) (past : List Wo
 pub group_has_room : (n : ℕ) (nodes : List NodeSpec) (events : List Event) (past : List World) (w : World) → Run n nodes events past w → 2 ≤ n → length events + 2 ≤ MAX → (Q : ℕ → Bool) → HasRoom n Q (raft_of w)
 group_has_room n nodes events past w run two short Q =
     let p = projection n nodes events past w run in
-    short_has_room cluster_meaning n two p.log_events p.log_past (raft_of w) p.run
-    (omega (arith, short, log_short n nodes events past w run p, runs.run_even cluster_meaning n p.log_events p.log_past (raft_of w) p.run)) Q
+    short_has_room cluster_spec n two p.log_events p.log_past (raft_of w) p.run
+    (omega (arith, short, log_short n nodes events past w run p, runs.run_even cluster_spec n p.log_events p.log_past (raft_of w) p.run)) Q

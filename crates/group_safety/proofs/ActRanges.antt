@@ -5,7 +5,7 @@ use Rattle.rows.specs.Fits.{EvalIdFits, PlanFits, CommandFits}
 use Rattle.rows.specs.declared.refusal.Refusal.{Refusal}
 use Rattle.rows.specs.States.{IsState}
 use Rattle.group_model.specs.Brokers.{Task}
-use Rattle.group_model.specs.Desks.{Desk, QueuedPlan, applied_state, whole_state}
+use Rattle.group_model.specs.Desks.{Desk, QueuedPlan, applied_state, projected_state}
 use Rattle.group_model.specs.Inputs.{Act, Ask, AskPropose}
 use Rattle.group_model.specs.Servers.{Server}
 use Rattle.group_safety.specs.Limits.{ServiceFits}
@@ -36,7 +36,7 @@ RangedResult (Ok act) = Ranged act
 -- a server whose states and desk are within their limits
 pub record ServerIsInRange (s : Server) : Type 0 where
   pub applied : IsState (applied_state s.raft)
-  pub whole : IsState (whole_state s.raft)
+  pub whole : IsState (projected_state s.raft)
   pub desk : DeskFits s.desk
   pub tasks : (d : Desk) → s.desk ≡ Some d → AllByRecursion TaskFits d.broker.tasks
 

@@ -15,9 +15,9 @@ use Rattle.rows.specs.declared.refusal.Refusal.{Refusal}
 use Rattle.rows.specs.declared.refusal.Refusal.TheVariants as refusals
 use Rattle.raft_model.specs.Rafts.{Raft, is_leader}
 use Rattle.raft_model.specs.Steps.{admission_refusal}
-use Rattle.cluster_model.specs.Words.{State}
-use Rattle.cluster_model.specs.Words.{node_of}
-use Rattle.cluster_model.specs.ClusterMachine.{cluster_meaning}
+use Rattle.fsm_model.specs.Words.{State}
+use Rattle.fsm_model.specs.Words.{node_of}
+use Rattle.fsm_model.specs.ClusterMachine.{cluster_spec}
 use Rattle.rows.specs.declared.worker.EvalOutcome.{EvalOutcome}
 use Rattle.rows.specs.declared.worker.WorkerRequest.{WorkerRequest}
 use Rattle.rows.specs.declared.worker.WorkerRequest.TheVariants.{Take, Submit, Finish, Nack}
@@ -27,15 +27,15 @@ use Rattle.rows.specs.Changes.{change_of}
 use Rattle.group_model.specs.Messages.{ServiceMessage, BetweenServers, ToServer, ToClient, WorkerMessage, Asks, Answers, ClientRequest, Register, Heartbeat, Pull, ReportStates, Listing, Told}
 use Rattle.group_model.specs.Order.{Picked, pick}
 use Rattle.group_model.specs.Brokers.{Task, Given, Nothing, UsedUp, Gives, deliver, outstanding}
-use Rattle.group_model.specs.Expiry.{BeatCount, beat_count_of}
+use Rattle.group_model.specs.Expiry.{HeartbeatCount, heartbeat_count_of}
 use Rattle.group_model.specs.Acceptance.{Accepted, accept, keeps_some}
 use Rattle.group_model.specs.Drains.{is_done, next_moves_of}
-use Rattle.group_model.specs.Desks.{Desk, QueuedPlan, applied_state, whole_state}
+use Rattle.group_model.specs.Desks.{Desk, QueuedPlan, applied_state, projected_state}
 use Rattle.group_model.specs.Inputs.{Act, Ask, AskPropose}
 use Rattle.group_model.specs.Plans.{plan_command, plan_turn, turn_of, judged, after_accept, proposes_plan, submitted}
 use Rattle.group_model.specs.DeskTurns.{lapse, expiry_command, expire_of, expire, migrates, drains_by, drain_turn_of, drain_turn, free_turn_of, free_turn, reap_of, reap}
 use Rattle.group_model.specs.WorkerRequests.{takes_given, submits_of, finishes_by, finishes_of, nacks_of, serves_request, serves_worker}
-use Rattle.group_model.specs.ClientRequests.{is_registered, is_taken_already, proposes_for, writes, beats_at, serves_client, listed}
+use Rattle.group_model.specs.ClientRequests.{is_registered, is_taken_already, proposes_for, writes, heartbeats_at, serves_client, listed}
 
 -- a plan is proposed
 abbrev pub AsksPlan : Option Ask → AcceptedPlan → Type 0
@@ -76,7 +76,7 @@ module _ (me : ℕ) (s : Raft Command) where
 
   sober_finish : (from : ℕ) (id : EvalId) (token : Token) (f : EvalOutcome) (o : Desk) (r : Result ℕ Refusal) → Sober me s (finishes_of me s from id token f o r)
   sober_finish from id token f o (Err e) = record { no_plan = λ p h. cc; honest = (refl, tt) }
-  sober_finish from id token f o (Ok wait) = sober_finish_by from id token f o (admission_refusal cluster_meaning s (commands.EvalStatus id (change_of f)))
+  sober_finish from id token f o (Ok wait) = sober_finish_by from id token f o (admission_refusal cluster_spec s (commands.EvalStatus id (change_of f)))
 
   sober_nack : (from : ℕ) (id : EvalId) (token : Token) (o : Desk) (r : Result ℕ Refusal) → Sober me s (nacks_of me from id token o r)
   sober_nack from id token o (Err e) = record { no_plan = λ p h. cc; honest = (refl, tt) }
@@ -111,16 +111,16 @@ module _ (me : ℕ) (s : Raft Command) where
     sober_writes : (d : Option Desk) → Sober me s (writes me s c kind command d)
     sober_writes d =
         sober_cond (not (is_leader s.mode)) _ _ (record { no_plan = λ p h. cc; honest = (refl, tt) })
-        (sober_cond (is_taken_already (whole_state s) command) _ _ (record { no_plan = λ p h. cc; honest = (refl, tt) }) (sober_proposes d (admission_refusal cluster_meaning s command)))
+        (sober_cond (is_taken_already (projected_state s) command) _ _ (record { no_plan = λ p h. cc; honest = (refl, tt) }) (sober_proposes d (admission_refusal cluster_spec s command)))
 
-  sober_beats : (c : ℕ) (o : Desk) (p : Option BeatCount) → Sober me s (beats_at me c o p)
+  sober_beats : (c : ℕ) (o : Desk) (p : Option HeartbeatCount) → Sober me s (heartbeats_at me c o p)
   sober_beats c o None = record { no_plan = λ p h. cc; honest = (refl, tt) }
   sober_beats c o (Some p) = record { no_plan = λ p h. cc; honest = (refl, tt) }
 
   pub sober_client : (c : ℕ) (r : Result Desk Refusal) (d : Option Desk) (request : ClientRequest) → Sober me s (serves_client me s c r d request)
   sober_client c r d (Register class size) = sober_writes c kinds.Register (commands.NodePut (record { number = c; class = class; size = size })) (λ p h. cc) d
   sober_client c (Err e) d Heartbeat = record { no_plan = λ p h. cc; honest = (refl, tt) }
-  sober_client c (Ok o) d Heartbeat = sober_beats c o (beat_count_of c o.beat_counts)
+  sober_client c (Ok o) d Heartbeat = sober_beats c o (heartbeat_count_of c o.heartbeat_counts)
   sober_client c r d Pull = record { no_plan = λ p h. cc; honest = ((refl, refl, refl), tt) }
   sober_client c r d (ReportStates items) = sober_writes c kinds.Report (commands.Report c items) (λ p h. cc) d
 
@@ -133,7 +133,7 @@ module _ (me : ℕ) (s : Raft Command) where
   pub sober_lapses : (d : Desk) (id : EvalId) → SoberResult me s (lapse d id)
   sober_lapses d id = sober_result _ (Ok _) (Err refusals.NotOutstanding) (record { no_plan = λ p h. cc; honest = tt }) tt
 
-  sober_expires_of : (d : Desk) (command : Command) → ((p : AcceptedPlan) → command ≡ commands.Plan p → ⊥) → (beats : ℕ) (p : Option BeatCount) → SoberResult me s (expire_of d command beats p)
+  sober_expires_of : (d : Desk) (command : Command) → ((p : AcceptedPlan) → command ≡ commands.Plan p → ⊥) → (beats : ℕ) (p : Option HeartbeatCount) → SoberResult me s (expire_of d command beats p)
   sober_expires_of d command other beats None = tt
   sober_expires_of d command other beats (Some q) = sober_result _ (Ok _) (Err refusals.StaleExpiry) (record { no_plan = λ p h. other p (cc); honest = tt }) tt
 
@@ -142,7 +142,7 @@ module _ (me : ℕ) (s : Raft Command) where
   expires_no_plan false n p h = cc
 
   pub sober_expires : (d : Desk) (n beats : ℕ) → SoberResult me s (expire s d n beats)
-  sober_expires d n beats = sober_expires_of d (expiry_command (applied_state s) n) (expires_no_plan (is_registered n (applied_state s)) n) beats (beat_count_of n d.beat_counts)
+  sober_expires d n beats = sober_expires_of d (expiry_command (applied_state s) n) (expires_no_plan (is_registered n (applied_state s)) n) beats (heartbeat_count_of n d.heartbeat_counts)
 
   sober_moves : (d : Desk) (ids : List AllocId) → Sober me s (migrates d ids)
   sober_moves d [] = record { no_plan = λ p h. cc; honest = tt }
@@ -157,7 +157,7 @@ module _ (me : ℕ) (s : Raft Command) where
   sober_drains_of d w (Some n) = sober_drains_by d w n (next_moves_of w (Some n))
 
   pub sober_drains : (d : Desk) (n : ℕ) → SoberResult me s (drain_turn s d n)
-  sober_drains d n = sober_drains_of d (whole_state s) (node_of n (whole_state s))
+  sober_drains d n = sober_drains_of d (projected_state s) (node_of n (projected_state s))
 
   sober_frees_of : (d : Desk) (e : Option Evaluation) → Sober me s (free_turn_of d e)
   sober_frees_of d None = record { no_plan = λ p h. cc; honest = tt }
@@ -185,11 +185,11 @@ module _ (me : ℕ) (s : Raft Command) where
 
   honest_accept : (d : Desk) (w : QueuedPlan) (r : Result Accepted Refusal) → AllByRecursion (Honest me s) (after_accept me s d w r).sent
   honest_accept d w (Err e) = (refl, tt)
-  honest_accept d w (Ok a) = honest_cond (keeps_some a) _ _ (honest_proposes d w a (admission_refusal cluster_meaning s (plan_command w.plan a))) (refl, tt)
+  honest_accept d w (Ok a) = honest_cond (keeps_some a) _ _ (honest_proposes d w a (admission_refusal cluster_spec s (plan_command w.plan a))) (refl, tt)
 
   honest_judged : (d : Desk) (w : QueuedPlan) (r : Result ℕ Refusal) → AllByRecursion (Honest me s) (judged me s d w r).sent
   honest_judged d w (Err e) = (refl, tt)
-  honest_judged d w (Ok wait) = honest_accept d w (accept (whole_state s) w.plan wait)
+  honest_judged d w (Ok wait) = honest_accept d w (accept (projected_state s) w.plan wait)
 
   honest_turn : (d : Desk) (p : Option (Picked QueuedPlan)) → AllByRecursion (Honest me s) (turn_of me s d p).sent
   honest_turn d None = tt

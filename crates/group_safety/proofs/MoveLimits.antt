@@ -6,7 +6,7 @@ use Rattle.rows.specs.Fits.{AllocIdFits, AllocationFits, RisingIdsFit}
 use Rattle.rows.specs.Keys.{alloc_id}
 use Rattle.rows.specs.declared.node.DrainMode.{DrainMode}
 use Rattle.rows.specs.declared.allocation.Allocation.{Allocation}
-use Rattle.cluster_model.specs.Words.{State}
+use Rattle.fsm_model.specs.Words.{State}
 use Rattle.rows.specs.States.{IsState}
 use Rattle.group_model.specs.Order as ordering
 use Rattle.group_model.specs.Order.{Picked, pick, picked_one, or_head}

@@ -3,7 +3,7 @@ use Rattle.std.proofs.Common.{◌≡◌, ℕ, inl, inr, Some, List, sym, ap, ◌
 use Rattle.rows.specs.declared.node.NodeSpec.{NodeSpec}
 use Rattle.raft_safety.proofs.Places.{get-split}
 use Rattle.raft_safety.proofs.Limits.{Bounds, run_bounds}
-use Rattle.cluster_model.specs.ClusterMachine.{cluster_meaning}
+use Rattle.fsm_model.specs.ClusterMachine.{cluster_spec}
 use Rattle.group_model.specs.Messages.{GroupMessage, OfLog, Service, ServiceMessage}
 use Rattle.group_model.specs.Worlds.{World, Event, Run, start, more, raft_of, raft_part}
 use Rattle.group_safety.specs.Claims.{IsFromMember}
@@ -13,7 +13,7 @@ use Rattle.group_safety.proofs.Showings.{event_goes}
 
 module _ (n : ℕ) (nodes : List NodeSpec) where
   bounds : (events : List Event) (past : List World) (w : World) → Run n nodes events past w → Bounds n (raft_of w)
-  bounds events past w run = let p = projection n nodes events past w run in run_bounds cluster_meaning n p.log_events p.log_past (raft_of w) p.run
+  bounds events past w run = let p = projection n nodes events past w run in run_bounds cluster_spec n p.log_events p.log_past (raft_of w) p.run
 
   -- the services of a run
   services : (events : List Event) (past : List World) (w : World) → Run n nodes events past w → (k : ℕ) (p : ServiceMessage) → slice_get w.sent k ≡ Some (Service p) → IsFromMember n (Service p)

@@ -9,7 +9,7 @@ use Rattle.rows.specs.declared.evaluation.Evaluation.{Evaluation}
 use Rattle.rows.specs.declared.token.Token.{Token}
 use Rattle.rows.specs.Keys.{eval_cmp}
 use Rattle.fsm_tables.proofs.Bounds.{eq_then}
-use Rattle.cluster_model.specs.Words.{same_eval}
+use Rattle.fsm_model.specs.Words.{same_eval}
 use Rattle.group_model.specs.Order.{Picked, or_head, pick, picked_one, first_by}
 use Rattle.group_model.specs.Brokers.{Mark, Free, Out, Acked, Task, task_of, with_task, carry, is_free, may_be_given, job_is_free, MOST, next}
 use Rattle.group_safety.specs.Deliveries.{token_of_mark, token_of_task, token_among}

@@ -9,12 +9,12 @@ use Rattle.raft_model.specs.Rafts as rafts
 use Rattle.raft_model.specs.Rafts.{Raft, is_leader}
 use Rattle.raft_model.specs.Steps as raft_steps
 use Rattle.raft_model.proofs.Cases.{same_ok}
-use Rattle.cluster_model.specs.Words.{State}
-use Rattle.cluster_model.specs.Effect.{applied}
-use Rattle.cluster_model.specs.ClusterMachine.{cluster_meaning}
+use Rattle.fsm_model.specs.Words.{State}
+use Rattle.fsm_model.specs.Effect.{applied}
+use Rattle.fsm_model.specs.ClusterMachine.{cluster_spec}
 use Rattle.group_model.specs.Messages.{Service, ServiceMessage}
 use Rattle.group_model.specs.Desks.{Desk, follow_state, opened, after_entry, after_entries, applied_state, newly, desk_after}
-use Rattle.group_model.specs.Inputs.{Act, Ask, AskTimeout, AskBeat, AskPropose, AskCompact, AskCrash, AskRestart, input_of, rests}
+use Rattle.group_model.specs.Inputs.{Act, Ask, AskTimeout, AskHeartbeat, AskPropose, AskCompact, AskCrash, AskRestart, input_of, rests}
 use Rattle.group_model.specs.Servers as servers
 use Rattle.group_model.specs.Servers.{Server, logged, asks_log, done}
 use Rattle.group_model.specs.Worlds.{LogEventFits, log_request, event_at}
@@ -60,20 +60,20 @@ module _ (n i : ℕ) (s : Server) where
 
   asks_fits : (act : Act) (o : Option Ask) (turn : servers.ServerTurn) → Ranged act → asks_log n i s act o ≡ Ok turn → TurnFits turn
   asks_fits act None turn h is = turn_is _ turn is (record { desk = h.desk; services = λ j p at. let q = service_from act.sent j p at in all_get ServiceFits act.sent h.sent q.0 p q.1 })
-  asks_fits act (Some ask) turn h is = logged_fits act (raft_steps.step cluster_meaning n i s.raft (input_of ask)) turn h is
+  asks_fits act (Some ask) turn h is = logged_fits act (raft_steps.step cluster_spec n i s.raft (input_of ask)) turn h is
 
   pub done_fits : (r : Result Act Refusal) (turn : servers.ServerTurn) → RangedResult r → done n i s r ≡ Ok turn → TurnFits turn
   done_fits (Err e) turn h is = absurd (cc)
   done_fits (Ok act) turn h is = asks_fits act act.ask turn h is
 
   pub log_message_fits : (message : Message Command) (turn : servers.ServerTurn) → DeskFits s.desk → servers.takes_log_message n i s message ≡ Ok turn → TurnFits turn
-  log_message_fits message turn h is = logged_fits (rests s.desk) (raft_steps.step cluster_meaning n i s.raft (raft_steps.Arrives message)) turn (record { ask = tt; sent = tt; desk = h }) is
+  log_message_fits message turn h is = logged_fits (rests s.desk) (raft_steps.step cluster_spec n i s.raft (raft_steps.Arrives message)) turn (record { ask = tt; sent = tt; desk = h }) is
 
 -- what is asked of the log is an event of its world
 pub asks_event : (i : ℕ) (o : Option Ask) → AskFits o → LogEventFits (event_at i o)
 asks_event i None h = tt
 asks_event i (Some AskTimeout) h = tt
-asks_event i (Some AskBeat) h = tt
+asks_event i (Some AskHeartbeat) h = tt
 asks_event i (Some (AskPropose c)) h = fits_command c h
 asks_event i (Some AskCompact) h = tt
 asks_event i (Some AskCrash) h = tt

@@ -9,7 +9,7 @@ use Rattle.rows.specs.declared.refusal.Refusal.{Refusal}
 use Rattle.rows.specs.declared.refusal.Refusal.TheVariants as refusals
 use Rattle.rows.specs.declared.worker.Work.{Work}
 use Rattle.lossy_net.specs.Queues.{AreNamedOnce, NoNet}
-use Rattle.cluster_model.specs.Words.{State}
+use Rattle.fsm_model.specs.Words.{State}
 use Rattle.group_model.specs.NextStep.{IsNextStep, WorkerStep}
 use Rattle.group_model.specs.NextStep as steps
 use Rattle.group_model.specs.Worlds.{AtServer}

@@ -12,7 +12,7 @@ use Rattle.rows.specs.declared.worker.WorkerResponse.TheVariants.{Delivered, Pla
 use Rattle.raft_model.specs.Rafts.{is_up}
 use Rattle.group_model.specs.NextStep.{WorkerStep, Later, Drop, Ask, IsNextStep}
 use Rattle.group_model.specs.Worlds.{AtServer}
-use Rattle.cluster_model.specs.Words.{State}
+use Rattle.fsm_model.specs.Words.{State}
 use Rattle.event_book.specs.Actors.{lists_actor}
 use Rattle.actor.specs.declared.group_actor.GroupActor.{GroupActor}
 use Rattle.actor.specs.declared.group_actor.GroupActor.TheVariants as group_actors

@@ -222,7 +222,7 @@ impl<B: BookId, G: Gate + Drop> RunningGroup<B, G> {
         let envelope = Envelope::own(actor, input);
         let receiver = envelope.receiver();
         let turned = turn(rt, &self.cells, envelope.receiver(), envelope)?;
-        self.settle(rt, receiver, turned);
+        self.pass_on(rt, receiver, turned);
         Ok(())
     }
 
@@ -283,14 +283,14 @@ impl<B: BookId, G: Gate + Drop> RunningGroup<B, G> {
 
     // What comes of a turn goes where it belongs. The workers of a server look again. Messages that
     // found no memory are lost.
-    fn settle<R: Wait>(&self, rt: &R, actor: Actor, turned: CellTurn<B>) {
+    fn pass_on<R: Wait>(&self, rt: &R, actor: Actor, turned: CellTurn<B>) {
         let CellTurn { work, sent, unsent } = turned;
         self.lost.fetch_add(unsent as u64, Ordering::SeqCst);
         for envelope in sent {
             self.post(rt, envelope);
         }
         if let Actor::Server(server) = actor {
-            self.admit(rt, server, work);
+            self.enqueue(rt, server, work);
         }
     }
 
@@ -299,11 +299,11 @@ impl<B: BookId, G: Gate + Drop> RunningGroup<B, G> {
     //
     // The turn is counted first: a worker that took work up before it, and puts it back for a later
     // state, looks again.
-    fn admit<R: Wait>(&self, rt: &R, server: ServerId, work: Sequence<Work>) {
+    fn enqueue<R: Wait>(&self, rt: &R, server: ServerId, work: Sequence<Work>) {
         let workers = &self.servers[server.position()];
         workers.turned.count();
         if !work.is_empty() {
-            let _ = workers.work.lock(rt).admit(work);
+            let _ = workers.work.lock(rt).enqueue(work);
             workers.turned.ring();
         } else if !workers.work.lock(rt).is_idle() {
             self.look_again(rt, server);
@@ -391,7 +391,7 @@ impl<B: BookId, G: Gate + Drop> RunningGroup<B, G> {
         let turned = turn(rt, &self.cells, envelope.receiver(), envelope);
         // A refused message is used up.
         if let Ok(turned) = turned {
-            self.settle(rt, receiver, turned);
+            self.pass_on(rt, receiver, turned);
         }
         self.land();
         true
@@ -422,7 +422,7 @@ impl<B: BookId, G: Gate + Drop> RunningGroup<B, G> {
         match worker_turn(rt, &self.cells, &workers.work, server, &self.gate) {
             Ok(WorkerTurn { went_on, turn }) => {
                 if let Some(turned) = turn {
-                    self.settle(rt, Actor::Server(server), turned);
+                    self.pass_on(rt, Actor::Server(server), turned);
                 }
                 went_on
             }

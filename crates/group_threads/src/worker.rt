@@ -93,7 +93,7 @@ fn has_applied_less(actor: &GroupActor, server: ServerId, least: Index) -> bool
 
 // A copy of a server's replicated state, and how many entries it comes after. The server's cell is
 // locked while the copy is made.
-fn snapshot<B: BookId, R: Wait>(
+fn applied_fork<B: BookId, R: Wait>(
     rt: &R,
     cells: &Cells<B>,
     server: ServerId,
@@ -156,7 +156,7 @@ fn stepped<B: BookId, G: Gate, R: Wait>(
     ensures handled { IfOk result (StepsAs (group_size B.actors) server taken) }
     ensures refused { IfErr result (WhyNoStep (group_size B.actors) cells.now.actors server) }
 {
-    let (state, index) = snapshot(rt, cells, server)?;
+    let (state, index) = applied_fork(rt, cells, server)?;
     pass(gate, &taken.work.response);
     Ok(handled(rt, cells.alloc(), workers, taken, &state, index)?)
 }

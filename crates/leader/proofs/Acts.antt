@@ -14,20 +14,20 @@ use Rattle.rows.specs.declared.worker.AskedRequest.TheVariants as asked
 use Rattle.rows.specs.Keys.{eval_id}
 use Rattle.rows.specs.Changes.{change_of}
 use Rattle.raft_model.specs.Steps.{admission_refusal}
-use Rattle.cluster_model.specs.ClusterMachine.{cluster_meaning}
-use Rattle.cluster_model.specs.Words.{State, node_of}
+use Rattle.fsm_model.specs.ClusterMachine.{cluster_spec}
+use Rattle.fsm_model.specs.Words.{State, node_of}
 use Rattle.group_model.specs.Order.{Picked}
 use Rattle.group_model.specs.Brokers.{Given, Nothing, UsedUp, Gives, Task, task_id, deliver, outstanding, is_outstanding, with_ack, with_nack}
 use Rattle.group_model.specs.Blocked.{first_due}
-use Rattle.group_model.specs.Expiry.{BeatCount, beat_count_of}
-use Rattle.group_model.specs.BeatCounts.{beat_counted_of, expiry_refusal_of}
+use Rattle.group_model.specs.Expiry.{HeartbeatCount, heartbeat_count_of}
+use Rattle.group_model.specs.HeartbeatCounts.{heartbeat_counted_of, expiry_refusal_of}
 use Rattle.group_model.specs.Drains.{is_done, next_moves_of}
-use Rattle.group_model.specs.Desks.{Desk, QueuedPlan, applied_state, whole_state}
+use Rattle.group_model.specs.Desks.{Desk, QueuedPlan, applied_state, projected_state}
 use Rattle.group_model.specs.Inputs.{AskPropose, rests, asks}
 use Rattle.group_model.specs.Plans.{submitted, judged, turn_of, after_accept}
 use Rattle.group_model.specs.Queues.{first_plan}
 use Rattle.group_model.specs.DeskTurns.{expiry_command, expire_of, migrates, drains_by, drain_turn_of, free_turn_of, reap_of}
-use Rattle.group_model.specs.ClientRequests.{beats_at}
+use Rattle.group_model.specs.ClientRequests.{heartbeats_at}
 use Rattle.group_model.specs.WorkerRequests.{refuses, takes_given, submits_of, finishes_of, finishes_by, nacks_of}
 use Rattle.leader.specs.OpenDesks.{OpenDesk, with_broker, once_given, once_submitted, once_outstanding, once_counted, unless_refused, migrate_if_any, drain_command_of}
 use Rattle.leader.specs.Verdicts.{verdict_for, once_picked}
@@ -67,7 +67,7 @@ finishes_by_ack me from s id token outcome o = by (outstanding id token o.desk.b
   by : (r : Result ℕ Refusal) → finishes_of me s from id token outcome o.desk r
       ≡ finish_act (refuses me from (asked.Finish id token) (Some o.desk)) s (commands.EvalStatus id (change_of outcome)) (once_outstanding new r)
   by (Err r) = refl
-  by (Ok wait) = at (commands.EvalStatus id (change_of outcome)) (admission_refusal cluster_meaning s (commands.EvalStatus id (change_of outcome)))
+  by (Ok wait) = at (commands.EvalStatus id (change_of outcome)) (admission_refusal cluster_spec s (commands.EvalStatus id (change_of outcome)))
 
 pub lapses_by_lapse : LapsesByLapse
 lapses_by_lapse id o = by (is_outstanding id o.desk.broker) where
@@ -80,18 +80,18 @@ lapses_by_lapse id o = by (is_outstanding id o.desk.broker) where
 
 pub plan_turns_by_verdict : PlanTurnsByVerdict
 plan_turns_by_verdict me s o = by (first_plan o.desk.plans) where
-  at : (d : Desk) (w : QueuedPlan) (r : Result ℕ Refusal) → judged me s d w r ≡ after_accept me s d w (verdict_for (whole_state s) w.plan r)
+  at : (d : Desk) (w : QueuedPlan) (r : Result ℕ Refusal) → judged me s d w r ≡ after_accept me s d w (verdict_for (projected_state s) w.plan r)
   at d w (Err r) = refl
   at d w (Ok wait) = refl
 
-  by : (p : Option (Picked QueuedPlan)) → turn_of me s o.desk p ≡ judged_act me s (once_picked (whole_state s) o p).1.desk (once_picked (whole_state s) o p).0
+  by : (p : Option (Picked QueuedPlan)) → turn_of me s o.desk p ≡ judged_act me s (once_picked (projected_state s) o p).1.desk (once_picked (projected_state s) o p).0
   by None = refl
   by (Some p) = at (record o.desk { plans = p.others }) p.one (outstanding p.one.plan.eval p.one.plan.token o.desk.broker)
 
 pub frees_by_free_turn : FreesByFreeTurn
 frees_by_free_turn s o over =
-    ap (λ (id : Option EvalId). status_act changes.Pending o.desk (Ok id)) (freed_of_state (applied_state s) (whole_state s) o _ over refl)
-    ∙ by (first_due (applied_state s) (whole_state s)) where
+    ap (λ (id : Option EvalId). status_act changes.Pending o.desk (Ok id)) (freed_of_state (applied_state s) (projected_state s) o _ over refl)
+    ∙ by (first_due (applied_state s) (projected_state s)) where
       by : (e : Option Evaluation) → status_act changes.Pending o.desk (Ok (option_map eval_id e)) ≡ Ok (free_turn_of o.desk e)
       by None = refl
       by (Some e) = refl
@@ -103,13 +103,13 @@ reaps_by_reap s o = by _ where
   by (Some t) = refl
 
 pub heartbeats_by_beat : HeartbeatsByBeat
-heartbeats_by_beat me client d o = by (beat_count_of client o.desk.beat_counts) where
-  by : (c : Option BeatCount) → beats_at me client o.desk c ≡ heartbeat_act me client o (once_counted o (beat_counted_of client o.desk.beat_counts c))
+heartbeats_by_beat me client d o = by (heartbeat_count_of client o.desk.heartbeat_counts) where
+  by : (c : Option HeartbeatCount) → heartbeats_at me client o.desk c ≡ heartbeat_act me client o (once_counted o (heartbeat_counted_of client o.desk.heartbeat_counts c))
   by None = refl
   by (Some c) = refl
 
 pub expires_by_expire : ExpiresByExpire
-expires_by_expire s node beats o = by (beat_count_of node o.desk.beat_counts) where
+expires_by_expire s node beats o = by (heartbeat_count_of node o.desk.heartbeat_counts) where
   command : Command
   command = expiry_command (applied_state s) node
 
@@ -118,14 +118,14 @@ expires_by_expire s node beats o = by (beat_count_of node o.desk.beat_counts) wh
   at true = refl
   at false = refl
 
-  by : (c : Option BeatCount) → expire_of o.desk command beats c ≡ expire_act o.desk (unless_refused command (expiry_refusal_of beats c))
+  by : (c : Option HeartbeatCount) → expire_of o.desk command beats c ≡ expire_act o.desk (unless_refused command (expiry_refusal_of beats c))
   by None = refl
   by (Some c) = at (nat_eq c.beats beats)
 
 pub drains_by_drain_turn : DrainsByDrainTurn
-drains_by_drain_turn s node o = by (node_of node whole) refl where
-  whole : State
-  whole = whole_state s
+drains_by_drain_turn s node o = by (node_of node projected) refl where
+  projected : State
+  projected = projected_state s
 
   at : (ids : List AllocId) (b : Bool) → cond b (Ok (asks (AskPropose (commands.DrainDone node)) (Some o.desk))) (Ok (migrates o.desk ids))
       ≡ drain_act o.desk (Ok (cond b (Some (commands.DrainDone node)) (migrate_if_any ids)))
@@ -133,12 +133,12 @@ drains_by_drain_turn s node o = by (node_of node whole) refl where
   at [] false = refl
   at (id ∷ ids) false = refl
 
-  told : (n : Node) → n.number ≡ node → (r : Result (List AllocId) Refusal) → drains_by o.desk whole n r ≡ drain_act o.desk (drain_command_of whole node r)
+  told : (n : Node) → n.number ≡ node → (r : Result (List AllocId) Refusal) → drains_by o.desk projected n r ≡ drain_act o.desk (drain_command_of projected node r)
   told n same (Err r) = refl
   told n same (Ok ids) =
-      ap (λ k. cond (is_done k whole) (Ok (asks (AskPropose (commands.DrainDone k)) (Some o.desk))) (Ok (migrates o.desk ids))) same
-      ∙ at ids (is_done node whole)
+      ap (λ k. cond (is_done k projected) (Ok (asks (AskPropose (commands.DrainDone k)) (Some o.desk))) (Ok (migrates o.desk ids))) same
+      ∙ at ids (is_done node projected)
 
-  by : (m : Option Node) → node_of node whole ≡ m → drain_turn_of o.desk whole m ≡ drain_act o.desk (drain_command_of whole node (next_moves_of whole m))
+  by : (m : Option Node) → node_of node projected ≡ m → drain_turn_of o.desk projected m ≡ drain_act o.desk (drain_command_of projected node (next_moves_of projected m))
   by None e = refl
-  by (Some n) e = told n (own_number node n whole e) (next_moves_of whole (Some n))
+  by (Some n) e = told n (own_number node n projected e) (next_moves_of projected (Some n))

@@ -27,12 +27,12 @@ use Rattle.fsm_tables.proofs.ReservedTables.{found_tied}
 use Rattle.fsm_state.proofs.StepLaws.{put_only, row_tied}
 use Rattle.rows.specs.Limits.{most_jobs, most_nodes}
 use Rattle.rows.specs.States.{AreTables}
-use Rattle.cluster_model.specs.Words.{State, is_open, is_blocked, same_eval, no_node, job_of, node_of}
-use Rattle.cluster_model.specs.Effect.{applied, with_next_count, with_evals, is_named, owns, job_row, stopped_row, stop_job, node_row, status_row, marked_as, downed, disconnected, draining_row, draining, drained_row, drained, moves, set_status, with_room, frees, stop, told_all, is_ended_by}
-use Rattle.cluster_model.proofs.Keys.{at_eval, at_number}
-use Rattle.cluster_model.proofs.Lists.{maps_same}
-use Rattle.cluster_model.proofs.StateLaws.{applied_are_tables}
-use Rattle.group_model.specs.Expiry.{BeatCount, is_held, counted_node, beats_of, beat_count_of, beat_counts_over, HoldsHeld}
+use Rattle.fsm_model.specs.Words.{State, is_open, is_blocked, same_eval, no_node, job_of, node_of}
+use Rattle.fsm_model.specs.Effect.{applied, with_next_count, with_evals, is_named, owns, job_row, stopped_row, stop_job, node_row, status_row, marked_as, downed, disconnected, draining_row, draining, drained_row, drained, moves, set_status, with_room, frees, stop, told_all, is_ended_by}
+use Rattle.fsm_model.proofs.Keys.{at_eval, at_number}
+use Rattle.fsm_model.proofs.Lists.{maps_same}
+use Rattle.fsm_model.proofs.StateLaws.{applied_are_tables}
+use Rattle.group_model.specs.Expiry.{HeartbeatCount, is_held, counted_node, heartbeats_of, heartbeat_count_of, heartbeat_counts_over, HoldsHeld}
 use Rattle.group_model.specs.Blocked.{room_over, classes_of, blocked_eval, blocked_over}
 use Rattle.group_model.proofs.Following.{counts_follow, counts_stay}
 use Rattle.group_model.proofs.BlockedRows.{blocked_follow_jobs}
@@ -167,15 +167,15 @@ job_told s (commands.Report n rs) = refl
 
 -- ---- nodes
 
-module _ (counts : List BeatCount) where
+module _ (counts : List HeartbeatCount) where
   -- a change that keeps numbers, and which nodes are held
-  mapped_counts : (f : Node → Node) → ((n : Node) → (node_number (f n) ≡ n.number) × (is_held (f n).status ≡ is_held n.status)) → (nodes : List Node) → beat_counts_over (map f nodes) counts ≡ beat_counts_over nodes counts
+  mapped_counts : (f : Node → Node) → ((n : Node) → (node_number (f n) ≡ n.number) × (is_held (f n).status ≡ is_held n.status)) → (nodes : List Node) → heartbeat_counts_over (map f nodes) counts ≡ heartbeat_counts_over nodes counts
   mapped_counts f keeps [] = refl
   mapped_counts f keeps (n ∷ nodes) =
-      ap (λ b. map (λ (n : Node). counted_node n (beat_count_of n.number counts)) (cond b (f n ∷ filter (λ (n : Node). is_held n.status) (map f nodes)) (filter (λ (n : Node). is_held n.status) (map f nodes)))) (keeps n).1
-      ∙ elim (is_held n.status) as (λ b. map (λ (n : Node). counted_node n (beat_count_of n.number counts)) (cond b (f n ∷ filter (λ (n : Node). is_held n.status) (map f nodes)) (filter (λ (n : Node). is_held n.status) (map f nodes)))
-      ≡ map (λ (n : Node). counted_node n (beat_count_of n.number counts)) (cond b (n ∷ filter (λ (n : Node). is_held n.status) nodes) (filter (λ (n : Node). is_held n.status) nodes))) [
-        | true ↦ λ i. (let c : BeatCount = record { node = (keeps n).0 i; beats = beats_of (beat_count_of ((keeps n).0 i) counts) } in c) ∷ mapped_counts f keeps nodes i
+      ap (λ b. map (λ (n : Node). counted_node n (heartbeat_count_of n.number counts)) (cond b (f n ∷ filter (λ (n : Node). is_held n.status) (map f nodes)) (filter (λ (n : Node). is_held n.status) (map f nodes)))) (keeps n).1
+      ∙ elim (is_held n.status) as (λ b. map (λ (n : Node). counted_node n (heartbeat_count_of n.number counts)) (cond b (f n ∷ filter (λ (n : Node). is_held n.status) (map f nodes)) (filter (λ (n : Node). is_held n.status) (map f nodes)))
+      ≡ map (λ (n : Node). counted_node n (heartbeat_count_of n.number counts)) (cond b (n ∷ filter (λ (n : Node). is_held n.status) nodes) (filter (λ (n : Node). is_held n.status) nodes))) [
+        | true ↦ λ i. (let c : HeartbeatCount = record { node = (keeps n).0 i; beats = heartbeats_of (heartbeat_count_of ((keeps n).0 i) counts) } in c) ∷ mapped_counts f keeps nodes i
         | false ↦ mapped_counts f keeps nodes
       ]
 
@@ -202,21 +202,21 @@ marked_is_put status n r nodes h e =
     put_only nat_cmp node_number nat_cmp_total (status_row status) (λ r. refl) n r nodes h e
     ∙ maps_same _ (marked_as status n) (λ y. ap (λ b. cond b (status_row status y) y) (at_number n y.number)) nodes
 
-module _ (s : State) (counts : List BeatCount) (rising : T (is_rising nat_cmp node_number s.nodes)) (of : HoldsHeld s.nodes counts) where
-  stays : counts ≡ beat_counts_over s.nodes counts
+module _ (s : State) (counts : List HeartbeatCount) (rising : T (is_rising nat_cmp node_number s.nodes)) (of : HoldsHeld s.nodes counts) where
+  stays : counts ≡ heartbeat_counts_over s.nodes counts
   stays = sym (counts_stay s.nodes counts rising of)
 
-  mapped : (f : Node → Node) → ((n : Node) → (node_number (f n) ≡ n.number) × (is_held (f n).status ≡ is_held n.status)) → counts ≡ beat_counts_over (map f s.nodes) counts
+  mapped : (f : Node → Node) → ((n : Node) → (node_number (f n) ≡ n.number) × (is_held (f n).status ≡ is_held n.status)) → counts ≡ heartbeat_counts_over (map f s.nodes) counts
   mapped f keeps = stays ∙ sym (mapped_counts counts f keeps s.nodes)
 
-  came : (n : NodeSpec) → tell_node (commands.NodePut n) (applied s (commands.NodePut n)) counts ≡ beat_counts_over (applied s (commands.NodePut n)).nodes counts
+  came : (n : NodeSpec) → tell_node (commands.NodePut n) (applied s (commands.NodePut n)) counts ≡ heartbeat_counts_over (applied s (commands.NodePut n)).nodes counts
   came n =
       let row = node_row (s.count + 1) n (node_of n.number s) in
       let after = put_within nat_cmp node_number most_nodes row s.nodes in
       ap (λ (k : ℕ). at_node (row_of nat_cmp node_number k after) counts) (sym (put_number (s.count + 1) n s.nodes (node_of n.number s) refl))
-      ∙ put_or_none nat_cmp node_number nat_cmp_total most_nodes row s.nodes (λ m nodes. at_node m counts ≡ beat_counts_over nodes counts) (sym (counts_follow s.nodes row counts rising of)) stays
+      ∙ put_or_none nat_cmp node_number nat_cmp_total most_nodes row s.nodes (λ m nodes. at_node m counts ≡ heartbeat_counts_over nodes counts) (sym (counts_follow s.nodes row counts rising of)) stays
 
-  marked : (status : NodeStatus) (n : ℕ) (r : Node) → node_of n s ≡ Some r → at_node (row_of nat_cmp node_number n (map (marked_as status n) s.nodes)) counts ≡ beat_counts_over (map (marked_as status n) s.nodes) counts
+  marked : (status : NodeStatus) (n : ℕ) (r : Node) → node_of n s ≡ Some r → at_node (row_of nat_cmp node_number n (map (marked_as status n) s.nodes)) counts ≡ heartbeat_counts_over (map (marked_as status n) s.nodes) counts
   marked status n r e =
       let is = marked_is_put status n r s.nodes rising e in
       let there : row_of nat_cmp node_number n (map (marked_as status n) s.nodes) ≡ Some (status_row status r) =
@@ -224,17 +224,17 @@ module _ (s : State) (counts : List BeatCount) (rising : T (is_rising nat_cmp no
       ∙ ap (λ o. cond (is_eq o) (Some (status_row status r)) (node_of n s)) (found_tied nat_cmp node_number nat_cmp_total n s.nodes r e) in
       ap (λ (m : Option Node). at_node m counts) there
       ∙ sym (counts_follow s.nodes (status_row status r) counts rising of)
-      ∙ ap (λ nodes. beat_counts_over nodes counts) is
+      ∙ ap (λ nodes. heartbeat_counts_over nodes counts) is
 
-  went : (n : ℕ) (m : Option Node) → node_of n s ≡ m → at_node (node_of n (cond (is_none m) (with_next_count s) (downed n (with_next_count s)))) counts ≡ beat_counts_over (cond (is_none m) (with_next_count s) (downed n (with_next_count s))).nodes counts
+  went : (n : ℕ) (m : Option Node) → node_of n s ≡ m → at_node (node_of n (cond (is_none m) (with_next_count s) (downed n (with_next_count s)))) counts ≡ heartbeat_counts_over (cond (is_none m) (with_next_count s) (downed n (with_next_count s))).nodes counts
   went n None e = ap (λ (m : Option Node). at_node m counts) e ∙ stays
   went n (Some r) e = marked statuses.Down n r e
 
-  is_away : (n : ℕ) (m : Option Node) → node_of n s ≡ m → at_node (node_of n (cond (is_none m) (with_next_count s) (disconnected n (with_next_count s)))) counts ≡ beat_counts_over (cond (is_none m) (with_next_count s) (disconnected n (with_next_count s))).nodes counts
+  is_away : (n : ℕ) (m : Option Node) → node_of n s ≡ m → at_node (node_of n (cond (is_none m) (with_next_count s) (disconnected n (with_next_count s)))) counts ≡ heartbeat_counts_over (cond (is_none m) (with_next_count s) (disconnected n (with_next_count s))).nodes counts
   is_away n None e = ap (λ (m : Option Node). at_node m counts) e ∙ stays
   is_away n (Some r) e = marked statuses.Disconnected n r e
 
-  pub node_told : (c : Command) → tell_node c (applied s c) counts ≡ beat_counts_over (applied s c).nodes counts
+  pub node_told : (c : Command) → tell_node c (applied s c) counts ≡ heartbeat_counts_over (applied s c).nodes counts
   node_told commands.Noop = stays
   node_told (commands.JobPut j) = stays
   node_told (commands.JobStop name) = stays

@@ -5,7 +5,7 @@ use Rattle.rows.specs.declared.allocation.AllocId.{AllocId}
 use Rattle.rows.specs.declared.refusal.Refusal.TheVariants as refusals
 use Rattle.rows.specs.Keys.{alloc_cmp, alloc_id}
 use Rattle.rows.specs.Rising.{is_rising}
-use Rattle.cluster_model.specs.Words.{State, node_of, is_draining}
+use Rattle.fsm_model.specs.Words.{State, node_of, is_draining}
 use Rattle.group_model.specs.Drains.{moves_of, next_moves, next_moves_of}
 use Rattle.group_model.proofs.NextMoves.{AreFewRising, moves_rise}
 

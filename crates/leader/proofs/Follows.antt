@@ -7,19 +7,19 @@ use Rattle.rows.specs.declared.evaluation.Evaluation.{Evaluation}
 use Rattle.rows.specs.declared.command.Command.{Command}
 use Rattle.rows.specs.declared.command.Command.TheVariants as commands
 use Rattle.rows.specs.Keys.{node_number}
-use Rattle.cluster_model.specs.Words.{State}
-use Rattle.cluster_model.specs.Effect.{applied}
-use Rattle.cluster_model.proofs.StateLaws.{applied_are_tables}
+use Rattle.fsm_model.specs.Words.{State}
+use Rattle.fsm_model.specs.Effect.{applied}
+use Rattle.fsm_model.proofs.StateLaws.{applied_are_tables}
 use Rattle.group_model.specs.Brokers.{Broker, broker_over, HoldsPending}
 use Rattle.group_model.specs.Blocked.{BlockedEvals, blocked_over}
-use Rattle.group_model.specs.Expiry.{BeatCount, is_held, count_node, counted_node, beat_count_of, beat_counts_over, HoldsHeld}
+use Rattle.group_model.specs.Expiry.{HeartbeatCount, is_held, count_node, counted_node, heartbeat_count_of, heartbeat_counts_over, HoldsHeld}
 use Rattle.leader.specs.Following.{AreOf, WereOf, tells_desk}
 use Rattle.leader.specs.Inner.Changes.{TellsEvals, broker_after, blocked_after, tell_job, tell_node, tell_rooms}
 use Rattle.leader.proofs.Holding.{of_rows}
 use Rattle.leader.proofs.ToldEvals.{over_holds, broker_told, blocked_told}
 use Rattle.leader.proofs.Commands.{evals_told, job_told, node_told, rooms_told}
 
-module _ (c : Command) (t : State) (rows : List Evaluation) (broker : Broker) (held : BlockedEvals) (counts : List BeatCount) (told : TellsEvals c t rows) where
+module _ (c : Command) (t : State) (rows : List Evaluation) (broker : Broker) (held : BlockedEvals) (counts : List HeartbeatCount) (told : TellsEvals c t rows) where
   -- the three, told in turn
   pub broker_follows : WereOf c t broker held counts → broker_after rows broker ≡ broker_over t.evals broker
   broker_follows w =
@@ -42,20 +42,20 @@ module _ (c : Command) (t : State) (rows : List Evaluation) (broker : Broker) (h
       ∙ rooms_told s c
       ∙ ap blocked_over (sym is)
 
-  pub counts_follow : WereOf c t broker held counts → tell_node c t counts ≡ beat_counts_over t.nodes counts
+  pub counts_follow : WereOf c t broker held counts → tell_node c t counts ≡ heartbeat_counts_over t.nodes counts
   counts_follow w =
       let s = w.before in
       let is = w.left in
       ap (λ (t : State). tell_node c t counts) is
       ∙ node_told s counts w.tables.nodes.rising w.of.nodes_held c
-      ∙ ap (λ (t : State). beat_counts_over t.nodes counts) (sym is)
+      ∙ ap (λ (t : State). heartbeat_counts_over t.nodes counts) (sym is)
 
   pub again : WereOf c t broker held counts → AreOf t (broker_after rows broker) (tell_rooms c t (blocked_after t rows (tell_job c t held))) (tell_node c t counts)
   again w = record {
     pending = subst (λ (b : Broker). HoldsPending t.evals b.tasks) (sym (broker_follows w)) (over_holds t.evals broker);
     blocked = blocked_follows w;
-    nodes_held = subst (λ (cs : List BeatCount). HoldsHeld t.nodes cs) (sym (counts_follow w))
-        (of_rows nat_cmp node_number count_node (λ k. k) node_number count_node (λ n. refl) (λ x. refl) (λ (n : Node). is_held n.status) nat_cmp_total counted_node (λ n m. refl) (λ n. beat_count_of n.number counts) t.nodes);
+    nodes_held = subst (λ (cs : List HeartbeatCount). HoldsHeld t.nodes cs) (sym (counts_follow w))
+        (of_rows nat_cmp node_number count_node (λ k. k) node_number count_node (λ n. refl) (λ x. refl) (λ (n : Node). is_held n.status) nat_cmp_total counted_node (λ n m. refl) (λ n. heartbeat_count_of n.number counts) t.nodes);
   }
 
 -- where there are evaluations to tell of, a desk is to be told

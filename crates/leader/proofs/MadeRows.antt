@@ -16,8 +16,8 @@ use Rattle.fsm_tables.proofs.RowLaws.{equal, some_none, row_of-put, rising_put_w
 use Rattle.fsm_tables.proofs.ReservedTables.{found_tied}
 use Rattle.fsm_state.proofs.StepLaws.{row_tied}
 use Rattle.rows.specs.Limits.{most_evals}
-use Rattle.cluster_model.specs.Words.{State}
-use Rattle.cluster_model.specs.Effect.{new_eval, with_evals}
+use Rattle.fsm_model.specs.Words.{State}
+use Rattle.fsm_model.specs.Effect.{new_eval, with_evals}
 use Rattle.leader.specs.Inner.Changes.{IsRowOf, TouchChanged, row_if_any}
 use Rattle.leader.proofs.Tables.{found_again}
 

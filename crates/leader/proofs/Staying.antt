@@ -5,12 +5,12 @@ use Rattle.rows.specs.declared.evaluation.Evaluation.{Evaluation}
 use Rattle.rows.specs.declared.plan.Plan.{Plan}
 use Rattle.rows.specs.declared.refusal.Refusal.{Refusal}
 use Rattle.rows.specs.declared.refusal.Refusal.TheVariants as refusals
-use Rattle.cluster_model.specs.Words.{State, eval_of}
+use Rattle.fsm_model.specs.Words.{State, eval_of}
 use Rattle.group_model.specs.Order.{Picked}
 use Rattle.group_model.specs.Brokers.{after_gift}
 use Rattle.group_model.specs.Brokers.{Broker, Given, Nothing, UsedUp, Gives, Acked, Free, no_tasks, deliver, set_mark, outstanding, is_outstanding, with_ack, with_nack, HoldsPending, task_key}
-use Rattle.group_model.specs.Expiry.{BeatCount, HoldsHeld, beat_count_of}
-use Rattle.group_model.specs.BeatCounts.{beat_counted_of}
+use Rattle.group_model.specs.Expiry.{HeartbeatCount, HoldsHeld, heartbeat_count_of}
+use Rattle.group_model.specs.HeartbeatCounts.{heartbeat_counted_of}
 use Rattle.group_model.specs.Desks.{Desk, QueuedPlan}
 use Rattle.group_model.specs.Plans.{QUEUE, joins}
 use Rattle.group_model.specs.Queues.{first_plan}
@@ -18,7 +18,7 @@ use Rattle.eval_broker.proofs.Following.{over_holds, keys_kept, gift_keeps}
 use Rattle.expiry.proofs.Holding.{over_held, beat_stays as same_nodes}
 use Rattle.leader.specs.OpenDesks.{OpenDesk, Answered, with_broker, on_lapse, once_given, once_outstanding, once_submitted, once_counted}
 use Rattle.leader.specs.Verdicts.{once_picked}
-use Rattle.leader.specs.Staying.{IsOver, OpensOver, DeliverStays, AckStays, NackStays, LapseStays, SubmitStays, PlanTurnStays, BeatStays}
+use Rattle.leader.specs.Staying.{IsOver, OpensOver, DeliverStays, AckStays, NackStays, LapseStays, SubmitStays, PlanTurnStays, HeartbeatStays}
 
 -- what a call leaves, also where it is refused
 abbrev left_by : {A : Type 0} → OpenDesk → Answered A → OpenDesk
@@ -43,7 +43,7 @@ pub opens_over : OpensOver
 opens_over s t o h = record {
   pending = subst (λ (d : Desk). HoldsPending s.evals d.broker.tasks) (sym h.desk) (over_holds s.evals no_tasks);
   blocked = h.blocked;
-  nodes_held = subst (λ (d : Desk). HoldsHeld s.nodes d.beat_counts) (sym h.desk) (over_held s.nodes []);
+  nodes_held = subst (λ (d : Desk). HoldsHeld s.nodes d.heartbeat_counts) (sym h.desk) (over_held s.nodes []);
 }
 
 pub deliver_stays : DeliverStays
@@ -83,13 +83,13 @@ pub submit_stays : SubmitStays
 submit_stays s applied from p o a new h = stays s o new a _ (joined s o from p (eval_of p.eval applied) h)
 
 pub plan_turn_stays : PlanTurnStays
-plan_turn_stays s whole o j new h = stays s o new j _ (by (first_plan o.desk.plans)) where
-  by : (p : Option (Picked QueuedPlan)) → IsOver s (once_picked whole o p).1
+plan_turn_stays s projected o j new h = stays s o new j _ (by (first_plan o.desk.plans)) where
+  by : (p : Option (Picked QueuedPlan)) → IsOver s (once_picked projected o p).1
   by None = h
   by (Some p) = record { pending = h.pending; blocked = h.blocked; nodes_held = h.nodes_held }
 
-pub beat_stays : BeatStays
-beat_stays s node o a new h = stays s o new a _ (by (beat_count_of node o.desk.beat_counts)) where
-  by : (c : Option BeatCount) → IsOver s (left_by o (once_counted o (beat_counted_of node o.desk.beat_counts c)))
+pub beat_stays : HeartbeatStays
+beat_stays s node o a new h = stays s o new a _ (by (heartbeat_count_of node o.desk.heartbeat_counts)) where
+  by : (c : Option HeartbeatCount) → IsOver s (left_by o (once_counted o (heartbeat_counted_of node o.desk.heartbeat_counts c)))
   by None = h
-  by (Some c) = record { pending = h.pending; blocked = h.blocked; nodes_held = same_nodes node o.desk.beat_counts ∙ h.nodes_held }
+  by (Some c) = record { pending = h.pending; blocked = h.blocked; nodes_held = same_nodes node o.desk.heartbeat_counts ∙ h.nodes_held }

@@ -12,7 +12,7 @@ use Rattle.fsm_tables.specs.Rows.{row_of, put}
 use Rattle.fsm_tables.proofs.RowLaws.{equal, some_same, row_of-put, rising_put}
 use Rattle.fsm_tables.proofs.ReservedTables.{found_tied}
 use Rattle.fsm_state.proofs.StepLaws.{row_tied}
-use Rattle.cluster_model.specs.Words.{State, is_pending}
+use Rattle.fsm_model.specs.Words.{State, is_pending}
 use Rattle.group_model.specs.Brokers.{Broker, Task, Key, task_id, task_key, eval_key, task_of, carry, tasks_over, broker_over, HoldsPending}
 use Rattle.group_model.specs.Blocked.{blocked_over}
 use Rattle.group_model.proofs.Following.{broker_follows, tasks_stay}

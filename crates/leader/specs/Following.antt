@@ -5,23 +5,23 @@ use Rattle.rows.specs.declared.node.Node.{Node}
 use Rattle.rows.specs.declared.command.Command.{Command}
 use Rattle.rows.specs.declared.command.Command.TheVariants as commands
 use Rattle.rows.specs.States.{AreTables}
-use Rattle.cluster_model.specs.Words.{State}
-use Rattle.cluster_model.specs.Effect.{applied}
+use Rattle.fsm_model.specs.Words.{State}
+use Rattle.fsm_model.specs.Effect.{applied}
 use Rattle.group_model.specs.Brokers.{Broker, HoldsPending}
 use Rattle.group_model.specs.Blocked.{BlockedEvals, blocked_over}
-use Rattle.group_model.specs.Expiry.{BeatCount, HoldsHeld}
+use Rattle.group_model.specs.Expiry.{HeartbeatCount, HoldsHeld}
 
 -- the broker holds the pending evaluations of this state, the blocked ones are its own, and the
 -- heartbeats that are counted are those of its nodes that are not down
 pub record AreOf (s : State) (broker : Broker) (held : BlockedEvals)
-    (counts : List BeatCount) : Type 0 where
+    (counts : List HeartbeatCount) : Type 0 where
   pub pending : HoldsPending s.evals broker.tasks
   pub blocked : held ≡ blocked_over s
   pub nodes_held : HoldsHeld s.nodes counts
 
 -- a command left this state, and these were of the state before it, whose tables were in order
 pub record WereOf (c : Command) (after : State) (broker : Broker) (held : BlockedEvals)
-    (counts : List BeatCount) : Type 0 where
+    (counts : List HeartbeatCount) : Type 0 where
   pub before : State
   pub tables : AreTables before
   pub left : after ≡ applied before c

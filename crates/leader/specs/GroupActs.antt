@@ -17,11 +17,11 @@ use Rattle.rows.specs.declared.worker.WorkerResponse.TheVariants.{Delivered}
 use Rattle.rows.specs.Changes.{change_of}
 use Rattle.raft_model.specs.Rafts.{Raft}
 use Rattle.raft_model.specs.Steps.{admission_refusal}
-use Rattle.cluster_model.specs.ClusterMachine.{cluster_meaning}
-use Rattle.cluster_model.specs.Words.{State}
+use Rattle.fsm_model.specs.ClusterMachine.{cluster_spec}
+use Rattle.fsm_model.specs.Words.{State}
 use Rattle.group_model.specs.Brokers.{deliver, outstanding}
 use Rattle.group_model.specs.Blocked.{blocked_over}
-use Rattle.group_model.specs.Desks.{Desk, applied_state, whole_state}
+use Rattle.group_model.specs.Desks.{Desk, applied_state, projected_state}
 use Rattle.group_model.specs.Inputs.{Act, AskPropose, rests, asks}
 use Rattle.group_model.specs.Plans.{submitted, after_accept, plan_turn}
 use Rattle.group_model.specs.Queues.{first_plan}
@@ -31,7 +31,7 @@ use Rattle.group_model.specs.WorkerRequests.{responds, refuses, takes_given, sub
 use Rattle.group_model.specs.WorkerRequests.{finishes_of, nacks_of}
 use Rattle.blocked.specs.Rooms.{blocked_of}
 use Rattle.leader.specs.OpenDesks.{OpenDesk, Answered, on_deliver, on_ack, on_nack, on_lapse}
-use Rattle.leader.specs.OpenDesks.{on_submit, on_free_turn, on_reap, on_beat, on_expire}
+use Rattle.leader.specs.OpenDesks.{on_submit, on_free_turn, on_reap, on_heartbeat, on_expire}
 use Rattle.leader.specs.OpenDesks.{on_drain_turn}
 use Rattle.leader.specs.Verdicts.{Judged, once_picked}
 
@@ -72,7 +72,7 @@ proposes_at new c refused None = asks (AskPropose c) (Some new.desk)
 -- a refusal goes back at the desk as it was
 abbrev pub finish_act : (Refusal → Act) → Raft Command → Command → Answered (Unit {0}) → Act
 finish_act refused s c (Err r) = refused r
-finish_act refused s c (Ok q) = proposes_at q.1 c refused (admission_refusal cluster_meaning s c)
+finish_act refused s c (Ok q) = proposes_at q.1 c refused (admission_refusal cluster_spec s c)
 
 abbrev pub FinishesByAck : Type 0
 FinishesByAck = (me from : ℕ) (s : Raft Command) (id : EvalId) (token : Token)
@@ -91,7 +91,7 @@ heartbeat_act me client o (Ok q) = answers me client kinds.Heartbeat None (Some 
 
 abbrev pub HeartbeatsByBeat : Type 0
 HeartbeatsByBeat = (me client : ℕ) (d : Option Desk) (o : OpenDesk)
-    → takes_heartbeat me client (Ok o.desk) d ≡ heartbeat_act me client o (on_beat client o)
+    → takes_heartbeat me client (Ok o.desk) d ≡ heartbeat_act me client o (on_heartbeat client o)
 
 -- ---- turns, at an open desk
 
@@ -119,7 +119,7 @@ drain_act d (Ok (Some c)) = Ok (asks (AskPropose c) (Some d))
 
 abbrev pub DrainsByDrainTurn : Type 0
 DrainsByDrainTurn = (s : Raft Command) (node : ℕ) (o : OpenDesk)
-    → drain_turn s o.desk node ≡ drain_act o.desk (on_drain_turn node (whole_state s) o)
+    → drain_turn s o.desk node ≡ drain_act o.desk (on_drain_turn node (projected_state s) o)
 
 -- what is kept is proposed, unless the log refuses it; and the sender is told
 abbrev pub judged_act : ℕ → Raft Command → Desk → Option Judged → Act
@@ -128,7 +128,7 @@ judged_act me s d (Some j) = after_accept me s d j.queued j.kept
 
 abbrev pub PlanTurnsByVerdict : Type 0
 PlanTurnsByVerdict = (me : ℕ) (s : Raft Command) (o : OpenDesk) →
-    let turn = once_picked (whole_state s) o (first_plan o.desk.plans) in
+    let turn = once_picked (projected_state s) o (first_plan o.desk.plans) in
     plan_turn me s o.desk ≡ judged_act me s turn.1.desk turn.0
 
 -- the evaluation, if there is one, is proposed with this status
@@ -140,8 +140,8 @@ status_act change d (Ok (Some id)) = Ok (asks (AskPropose (commands.EvalStatus i
 abbrev pub FreesByFreeTurn : Type 0
 FreesByFreeTurn = (s : Raft Command) (o : OpenDesk)
     → blocked_of o.blocked ≡ blocked_over (applied_state s)
-    → status_act changes.Pending o.desk (on_free_turn (whole_state s) o) ≡ Ok (free_turn s o.desk)
+    → status_act changes.Pending o.desk (on_free_turn (projected_state s) o) ≡ Ok (free_turn s o.desk)
 
 abbrev pub ReapsByReap : Type 0
 ReapsByReap = (s : Raft Command) (o : OpenDesk)
-    → status_act changes.Failed o.desk (on_reap (whole_state s) o) ≡ Ok (reap s o.desk)
+    → status_act changes.Failed o.desk (on_reap (projected_state s) o) ≡ Ok (reap s o.desk)

@@ -10,14 +10,14 @@ use Rattle.rows.specs.declared.command.Command.{Command}
 use Rattle.rows.specs.declared.command.Command.TheVariants as commands
 use Rattle.rows.specs.declared.refusal.Refusal.{Refusal}
 use Rattle.rows.specs.declared.refusal.Refusal.TheVariants as refusals
-use Rattle.cluster_model.specs.Words.{State}
+use Rattle.fsm_model.specs.Words.{State}
 use Rattle.group_model.specs.Order.{first_by}
 use Rattle.group_model.specs.Brokers.{Broker, Given, Nothing, UsedUp, Gives, task_id, deliver}
 use Rattle.group_model.specs.Brokers.{outstanding, is_outstanding, with_ack, with_nack, failed}
 use Rattle.group_model.specs.Blocked.{BlockedEval, BlockedEvals, blocked_id, blocked_over, due}
 use Rattle.group_model.specs.Blocked.{is_still_blocked}
-use Rattle.group_model.specs.Expiry.{BeatCount}
-use Rattle.group_model.specs.BeatCounts.{beat_counted, expiry_refusal}
+use Rattle.group_model.specs.Expiry.{HeartbeatCount}
+use Rattle.group_model.specs.HeartbeatCounts.{heartbeat_counted, expiry_refusal}
 use Rattle.group_model.specs.Drains.{is_done, next_moves}
 use Rattle.group_model.specs.Desks.{Desk, opened}
 use Rattle.group_model.specs.Plans.{submitted}
@@ -33,8 +33,8 @@ pub record OpenDesk : Type 0 where
 abbrev pub with_desk : Desk → OpenDesk → OpenDesk
 with_desk d o = record o { desk = d }
 
-abbrev pub with_beat_counts : List BeatCount → OpenDesk → OpenDesk
-with_beat_counts counts o = record o { desk = record o.desk { beat_counts = counts } }
+abbrev pub with_heartbeat_counts : List HeartbeatCount → OpenDesk → OpenDesk
+with_heartbeat_counts counts o = record o { desk = record o.desk { heartbeat_counts = counts } }
 
 abbrev pub with_broker : Broker → OpenDesk → OpenDesk
 with_broker b o = record o { desk = record o.desk { broker = b } }
@@ -61,9 +61,9 @@ has_due o = some_due (blocked_of o.blocked)
 -- ---- calls
 
 -- an open desk alone may want memory
-abbrev pub LacksMemory : Option OpenDesk → Refusal → Type 0
-LacksMemory None e = ⊥
-LacksMemory (Some o) e = e ≡ refusals.NoMemory
+abbrev pub OutOfMemoryIfOpen : Option OpenDesk → Refusal → Type 0
+OutOfMemoryIfOpen None e = ⊥
+OutOfMemoryIfOpen (Some o) e = e ≡ refusals.NoMemory
 
 -- what an open desk answers; a closed one refuses the call
 abbrev pub if_open : {A : Type 0} → (OpenDesk → Result A Refusal)
@@ -129,26 +129,26 @@ on_submit from applied p o = once_submitted o (submitted from applied o.desk p)
 
 -- Free: the first that is due, and is still blocked after the whole log.
 abbrev pub first_freed : State → BlockedEvals → Option BlockedEval
-first_freed whole b =
+first_freed projected b =
     first_by (λ (e : BlockedEval). e.row.priority)
-    (filter (λ (e : BlockedEval). is_still_blocked whole e.row) (due b))
+    (filter (λ (e : BlockedEval). is_still_blocked projected e.row) (due b))
 
 abbrev pub on_free_turn : State → OpenDesk → Result (Option EvalId) Refusal
-on_free_turn whole o = Ok (option_map blocked_id (first_freed whole (blocked_of o.blocked)))
+on_free_turn projected o = Ok (option_map blocked_id (first_freed projected (blocked_of o.blocked)))
 
 -- Reap: the first that was given out as often as may be, and is still pending after the whole log.
 abbrev pub on_reap : State → OpenDesk → Result (Option EvalId) Refusal
-on_reap whole o =
+on_reap projected o =
     Ok (option_map task_id
-    (first_by (λ t. t.priority) (filter (is_still_pending whole) (failed o.desk.broker))))
+    (first_by (λ t. t.priority) (filter (is_still_pending projected) (failed o.desk.broker))))
 
 -- Beat: a node was heard of once more, unless its heartbeats are not counted.
-abbrev pub once_counted : OpenDesk → Result (List BeatCount) Refusal → Answered (Unit {0})
+abbrev pub once_counted : OpenDesk → Result (List HeartbeatCount) Refusal → Answered (Unit {0})
 once_counted o (Err r) = Err r
-once_counted o (Ok counts) = Ok (tt, with_beat_counts counts o)
+once_counted o (Ok counts) = Ok (tt, with_heartbeat_counts counts o)
 
-abbrev pub on_beat : ℕ → OpenDesk → Answered (Unit {0})
-on_beat node o = once_counted o (beat_counted node o.desk.beat_counts)
+abbrev pub on_heartbeat : ℕ → OpenDesk → Answered (Unit {0})
+on_heartbeat node o = once_counted o (heartbeat_counted node o.desk.heartbeat_counts)
 
 -- Expire: what is proposed, by the applied state, of a node that was heard of so often and not
 -- since.
@@ -158,7 +158,7 @@ unless_refused c (Some r) = Err r
 
 abbrev pub on_expire : ℕ → ℕ → State → OpenDesk → Result Command Refusal
 on_expire node beats applied o =
-    unless_refused (expiry_command applied node) (expiry_refusal node beats o.desk.beat_counts)
+    unless_refused (expiry_command applied node) (expiry_refusal node beats o.desk.heartbeat_counts)
 
 -- Drain: what is proposed of a node's drain by the state after the whole log, if anything is: that
 -- it is done where nothing lives on the node, else that its next moves are made.
@@ -168,12 +168,12 @@ migrate_if_any (id ∷ ids) = Some (commands.Migrate (id ∷ ids))
 
 abbrev pub drain_command_of : State → ℕ → Result (List AllocId) Refusal
     → Result (Option Command) Refusal
-drain_command_of whole node (Err r) = Err r
-drain_command_of whole node (Ok ids) =
-    Ok (if is_done node whole then Some (commands.DrainDone node) else migrate_if_any ids)
+drain_command_of projected node (Err r) = Err r
+drain_command_of projected node (Ok ids) =
+    Ok (if is_done node projected then Some (commands.DrainDone node) else migrate_if_any ids)
 
 abbrev pub drain_command : State → ℕ → Result (Option Command) Refusal
-drain_command whole node = drain_command_of whole node (next_moves whole node)
+drain_command projected node = drain_command_of projected node (next_moves projected node)
 
 abbrev pub on_drain_turn : ℕ → State → OpenDesk → Result (Option Command) Refusal
-on_drain_turn node whole o = drain_command whole node
+on_drain_turn node projected o = drain_command projected node

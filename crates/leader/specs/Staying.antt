@@ -4,21 +4,21 @@ use Rattle.rows.specs.declared.evaluation.EvalId.{EvalId}
 use Rattle.rows.specs.declared.token.Token.{Token}
 use Rattle.rows.specs.declared.plan.Plan.{Plan}
 use Rattle.rows.specs.declared.command.Command.{Command}
-use Rattle.cluster_model.specs.Words.{State}
+use Rattle.fsm_model.specs.Words.{State}
 use Rattle.group_model.specs.Desks.{follow_state}
 use Rattle.blocked.specs.Rooms.{blocked_of}
 use Rattle.leader.specs.Following.{AreOf, WereOf}
 use Rattle.leader.specs.OpenDesks.{OpenDesk, Answered, IsOpened, on_deliver, on_ack, on_nack}
-use Rattle.leader.specs.OpenDesks.{on_lapse, on_submit, on_beat}
+use Rattle.leader.specs.OpenDesks.{on_lapse, on_submit, on_heartbeat}
 use Rattle.leader.specs.Verdicts.{on_plan_turn}
 
 -- it has the pending evaluations of the state, the blocked ones, and the nodes that are not down
 abbrev pub IsOver : State → OpenDesk → Type 0
-IsOver s o = AreOf s o.desk.broker (blocked_of o.blocked) o.desk.beat_counts
+IsOver s o = AreOf s o.desk.broker (blocked_of o.blocked) o.desk.heartbeat_counts
 
 -- A command left this state: the desk was of the state before it, and now follows it.
 abbrev pub WasOver : Command → State → OpenDesk → Type 0
-WasOver c s o = WereOf c s o.desk.broker (blocked_of o.blocked) o.desk.beat_counts
+WasOver c s o = WereOf c s o.desk.broker (blocked_of o.blocked) o.desk.heartbeat_counts
 
 pub record HasFollowed (s : State) (old new : OpenDesk) : Type 0 where
   pub desk : new.desk ≡ follow_state s old.desk
@@ -63,7 +63,7 @@ SubmitStays = (s applied : State) (from : ℕ) (p : Plan) (o : OpenDesk)
     → LeavesOver s (on_submit from applied p) o
 
 abbrev pub PlanTurnStays : Type 0
-PlanTurnStays = (s whole : State) (o : OpenDesk) → LeavesOver s (on_plan_turn whole) o
+PlanTurnStays = (s projected : State) (o : OpenDesk) → LeavesOver s (on_plan_turn projected) o
 
-abbrev pub BeatStays : Type 0
-BeatStays = (s : State) (node : ℕ) (o : OpenDesk) → LeavesOver s (on_beat node) o
+abbrev pub HeartbeatStays : Type 0
+HeartbeatStays = (s : State) (node : ℕ) (o : OpenDesk) → LeavesOver s (on_heartbeat node) o

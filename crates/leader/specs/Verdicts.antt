@@ -2,7 +2,7 @@
 use Rattle.std.specs.Prelude.{◌≡◌, ℕ, Bool, Option, Some, None, Result, Ok, Err, is_ok, IfOk}
 use Rattle.rows.specs.declared.plan.Plan.{Plan}
 use Rattle.rows.specs.declared.refusal.Refusal.{Refusal}
-use Rattle.cluster_model.specs.Words.{State, is_some_and}
+use Rattle.fsm_model.specs.Words.{State, is_some_and}
 use Rattle.group_model.specs.Order.{Picked}
 use Rattle.group_model.specs.Brokers.{Broker, outstanding}
 use Rattle.group_model.specs.Acceptance.{Accepted, accept, plan_of_accepted}
@@ -15,11 +15,11 @@ use Rattle.leader.specs.OpenDesks.{OpenDesk, Answered}
 
 -- what is kept of a plan at a state: first the pair must be outstanding
 abbrev pub verdict_for : State → Plan → Result ℕ Refusal → Result Accepted Refusal
-verdict_for whole p (Err r) = Err r
-verdict_for whole p (Ok wait) = accept whole p wait
+verdict_for projected p (Err r) = Err r
+verdict_for projected p (Ok wait) = accept projected p wait
 
 abbrev pub verdict : State → Broker → Plan → Result Accepted Refusal
-verdict whole b p = verdict_for whole p (outstanding p.eval p.token b)
+verdict projected b p = verdict_for projected p (outstanding p.eval p.token b)
 
 -- a plan that was taken out of the queue, and what is kept of it
 pub record Judged : Type 0 where
@@ -39,18 +39,18 @@ IsProposal j = IfOk j.kept (λ a. a.plan ≡ plan_of_accepted j.queued.plan (kep
 
 -- Plan turn: the first plan leaves the queue, whatever becomes of it.
 abbrev pub once_picked : State → OpenDesk → Option (Picked QueuedPlan) → Option Judged × OpenDesk
-once_picked whole o None = (None, o)
-once_picked whole o (Some p) = (
-  Some (record { queued = p.one; kept = verdict whole o.desk.broker p.one.plan }),
+once_picked projected o None = (None, o)
+once_picked projected o (Some p) = (
+  Some (record { queued = p.one; kept = verdict projected o.desk.broker p.one.plan }),
   record o { desk = record o.desk { plans = p.others } },
 )
 
 abbrev pub on_plan_turn : State → OpenDesk → Answered (Option Judged)
-on_plan_turn whole o = Ok (once_picked whole o (first_plan o.desk.plans))
+on_plan_turn projected o = Ok (once_picked projected o (first_plan o.desk.plans))
 
 -- A plan waits, and the one that goes first passes: its pair is outstanding, and the check refuses
 -- it for nothing.
 abbrev pub first_passes : State → OpenDesk → Bool
-first_passes whole o =
-    is_some_and (λ (p : Picked QueuedPlan). is_ok (verdict whole o.desk.broker p.one.plan))
+first_passes projected o =
+    is_some_and (λ (p : Picked QueuedPlan). is_ok (verdict projected o.desk.broker p.one.plan))
     (first_plan o.desk.plans)

@@ -1,14 +1,14 @@
 ghost use Rattle.std.specs.Prelude.{◌≡◌, ◌⊎◌, true, false, None, is_some, is_ok, option_map, OnOk, OnErr, IfOk, IfErr, IfSome, Ok, Err};
 ghost use Rattle.rows.specs.Keys.{eval_id};
 ghost use Rattle.rows.specs.declared.refusal.Refusal.TheVariants as refusals;
-ghost use Rattle.cluster_model.specs.Words.{State, is_some_and};
+ghost use Rattle.fsm_model.specs.Words.{State, is_some_and};
 ghost use Rattle.group_model.specs.Blocked.{first_due};
 ghost use Rattle.group_model.specs.Drains.{is_done};
 ghost use Rattle.leader.specs.Following.{tells_desk};
 ghost use Rattle.leader.specs.Staying.{FollowsIfOpen};
 ghost use Rattle.leader.specs.Errors.{desk_refusal};
 ghost use Rattle.leader.specs.Verdicts.{judged_by, IsProposal, on_plan_turn, first_passes};
-ghost use Rattle.leader.specs.OpenDesks.{IsOpenedBy, IsOverBlocked, LacksMemory, has_due, if_open, at_open, on_deliver, on_outstanding, on_ack, on_nack, on_lapse, on_submit, on_free_turn, on_reap, on_beat, on_expire, on_drain_turn};
+ghost use Rattle.leader.specs.OpenDesks.{IsOpenedBy, IsOverBlocked, OutOfMemoryIfOpen, has_due, if_open, at_open, on_deliver, on_outstanding, on_ack, on_nack, on_lapse, on_submit, on_free_turn, on_reap, on_heartbeat, on_expire, on_drain_turn};
 
 use crate::desk_error::DeskError;
 use crate::drains::drain_command;
@@ -93,7 +93,8 @@ impl Desk {
 
     /// How often the nodes that are not down were heard of, while it is open.
     pub fn expiry(&self) -> Option<&Expiry>
-        ensures { option_map (λ e. e.now) result ≡ option_map (λ o. o.desk.beat_counts) self.now }
+        ensures { option_map (λ e. e.now) result
+            ≡ option_map (λ o. o.desk.heartbeat_counts) self.now }
     {
         match &self.opened {
             Some(desk) => Some(desk.expiry()),
@@ -213,7 +214,7 @@ impl Desk {
         ensures ok { let call = on_submit from applied.now plan in
             IfOk result (λ u. at_open call self.old ≡ Ok (u, self.new)) }
         ensures err { let call = on_submit from applied.now plan in
-            IfErr result (λ e. LacksMemory self.old e ⊎ (at_open call self.old ≡ Err e)) }
+            IfErr result (λ e. OutOfMemoryIfOpen self.old e ⊎ (at_open call self.old ≡ Err e)) }
         ensures memory { let call = on_submit from applied.now plan in
             IfErr result (λ e. e ≡ refusals.NoMemory → is_ok (at_open call self.old) ≡ true) }
         ensures left { OnErr result (self.new ≡ self.old) }
@@ -225,53 +226,54 @@ impl Desk {
     }
 
     /// The plan of the highest priority, of equals the one that came earlier, leaves the queue,
-    /// whatever becomes of it; none where none waits. It is held against `whole`, the state after
-    /// the whole log: its pair must be outstanding, and then what is kept of it, or the reason why
-    /// none is, is told. `NoMemory` only where that plan passes; then the desk is only to be
-    /// dropped or cleared.
-    pub fn plan_turn(&mut self, whole: &Cluster) -> Result<Option<JudgedPlan>, Refusal>
-        ensures turn { let turn = at_open (on_plan_turn whole.now) self.old in
+    /// whatever becomes of it; none where none waits. It is held against `projected`, the state
+    /// after the whole log: its pair must be outstanding, and then what is kept of it, or the
+    /// reason why none is, is told. `NoMemory` only where that plan passes; then the desk is only
+    /// to be dropped or cleared.
+    pub fn plan_turn(&mut self, projected: &Cluster) -> Result<Option<JudgedPlan>, Refusal>
+        ensures turn { let turn = at_open (on_plan_turn projected.now) self.old in
             IfOk result (λ j. turn ≡ Ok (option_map judged_by j, self.new)) }
         ensures proposal { IfOk result (λ j. IfSome j IsProposal) }
-        ensures err { let turn = at_open (on_plan_turn whole.now) self.old in
-            IfErr result (λ e. LacksMemory self.old e ⊎ ((turn ≡ Err e) × (self.new ≡ self.old))) }
+        ensures err { let turn = at_open (on_plan_turn projected.now) self.old in
+            IfErr result (λ e. OutOfMemoryIfOpen self.old e ⊎ ((turn ≡ Err e)
+            × (self.new ≡ self.old))) }
         ensures memory { IfErr result (λ e. e ≡ refusals.NoMemory →
-            is_some_and (first_passes whole.now) self.old ≡ true) }
+            is_some_and (first_passes projected.now) self.old ≡ true) }
     {
         match &mut self.opened {
-            Some(desk) => Ok(desk.plan_turn(self.alloc, whole)?),
+            Some(desk) => Ok(desk.plan_turn(self.alloc, projected)?),
             None => Err(Refusal::NotOpen),
         }
     }
 
-    /// The first evaluation that is due, and is still blocked in `whole`, the state after the whole
-    /// log; none where there is none. `NoMemory` only where some evaluation is due. It changes
-    /// nothing.
-    pub fn free_turn(&self, whole: &Cluster) -> Result<Option<EvalId>, Refusal>
-        ensures ok { IfOk result (λ id. if_open (on_free_turn whole.now) self.now ≡ Ok id) }
+    /// The first evaluation that is due, and is still blocked in `projected`, the state after the
+    /// whole log; none where there is none. `NoMemory` only where some evaluation is due. It
+    /// changes nothing.
+    pub fn free_turn(&self, projected: &Cluster) -> Result<Option<EvalId>, Refusal>
+        ensures ok { IfOk result (λ id. if_open (on_free_turn projected.now) self.now ≡ Ok id) }
         ensures of_state { IfOk result (λ id. (s : State) → IsOverBlocked s self.now →
-            id ≡ option_map eval_id (first_due s whole.now)) }
-        ensures err { let call = on_free_turn whole.now in
-            IfErr result (λ e. LacksMemory self.now e ⊎ (if_open call self.now ≡ Err e)) }
+            id ≡ option_map eval_id (first_due s projected.now)) }
+        ensures err { let call = on_free_turn projected.now in
+            IfErr result (λ e. OutOfMemoryIfOpen self.now e ⊎ (if_open call self.now ≡ Err e)) }
         ensures memory { IfErr result (λ e. e ≡ refusals.NoMemory →
             is_some_and has_due self.now ≡ true) }
     {
         match &self.opened {
-            Some(desk) => Ok(desk.free_turn(self.alloc, whole)?),
+            Some(desk) => Ok(desk.free_turn(self.alloc, projected)?),
             None => Err(Refusal::NotOpen),
         }
     }
 
     /// The first evaluation that was given out three times and is neither out nor acked, and is
-    /// still pending in `whole`, the state after the whole log; none where there is none. It takes
-    /// no memory, and changes nothing.
-    pub fn reap(&self, whole: &Cluster) -> Result<Option<EvalId>, DeskError>
-        ensures ok { IfOk result (λ id. if_open (on_reap whole.now) self.now ≡ Ok id) }
+    /// still pending in `projected`, the state after the whole log; none where there is none. It
+    /// takes no memory, and changes nothing.
+    pub fn reap(&self, projected: &Cluster) -> Result<Option<EvalId>, DeskError>
+        ensures ok { IfOk result (λ id. if_open (on_reap projected.now) self.now ≡ Ok id) }
         ensures err { IfErr result
-            (λ e. if_open (on_reap whole.now) self.now ≡ Err (desk_refusal e)) }
+            (λ e. if_open (on_reap projected.now) self.now ≡ Err (desk_refusal e)) }
     {
         match &self.opened {
-            Some(desk) => Ok(desk.reap(whole)),
+            Some(desk) => Ok(desk.reap(projected)),
             None => Err(DeskError::NotOpen),
         }
     }
@@ -281,8 +283,9 @@ impl Desk {
     /// heartbeats of it are counted. It takes no memory, and refused it changes nothing. (Nomad
     /// documentation, "server" block of the agent configuration: heartbeats of clients.)
     pub fn beat(&mut self, node: NodeId) -> Result<(), DeskError>
-        ensures ok { IfOk result (λ u. at_open (on_beat node) self.old ≡ Ok (u, self.new)) }
-        ensures err { IfErr result (λ e. at_open (on_beat node) self.old ≡ Err (desk_refusal e)) }
+        ensures ok { IfOk result (λ u. at_open (on_heartbeat node) self.old ≡ Ok (u, self.new)) }
+        ensures err { IfErr result (λ e. at_open (on_heartbeat node) self.old
+            ≡ Err (desk_refusal e)) }
         ensures left { OnErr result (self.new ≡ self.old) }
     {
         match &mut self.opened {
@@ -312,22 +315,23 @@ impl Desk {
         }
     }
 
-    /// What is proposed at a turn of a node's drain by `whole`, the state after the whole log:
+    /// What is proposed at a turn of a node's drain by `projected`, the state after the whole log:
     /// `DrainDone` where nothing lives on the node, else `Migrate` of the allocations that move
     /// next; none where there is nothing to do. `UnknownNode` where there is no such node,
     /// `NotDraining` where it is not drained, and `NoMemory` only where neither applies and an
     /// allocation lives on the node. It changes nothing. (Nomad documentation, "node drain"
     /// command.)
-    pub fn drain_turn(&self, node: NodeId, whole: &Cluster) -> Result<Option<Command>, Refusal>
-        ensures ok { IfOk result (λ c. if_open (on_drain_turn node whole.now) self.now ≡ Ok c) }
-        ensures err { let call = on_drain_turn node whole.now in
-            IfErr result (λ e. LacksMemory self.now e ⊎ (if_open call self.now ≡ Err e)) }
-        ensures memory { let call = on_drain_turn node whole.now in
+    pub fn drain_turn(&self, node: NodeId, projected: &Cluster) -> Result<Option<Command>, Refusal>
+        ensures ok { IfOk result (λ c. if_open (on_drain_turn node projected.now) self.now ≡ Ok c) }
+        ensures err { let call = on_drain_turn node projected.now in
+            IfErr result (λ e. OutOfMemoryIfOpen self.now e ⊎ (if_open call self.now ≡ Err e)) }
+        ensures memory { let call = on_drain_turn node projected.now in
             IfErr result (λ e. e ≡ refusals.NoMemory → is_ok (if_open call self.now) ≡ true) }
-        ensures lives { IfErr result (λ e. e ≡ refusals.NoMemory → is_done node whole.now ≡ false) }
+        ensures lives { IfErr result (λ e. e ≡ refusals.NoMemory →
+            is_done node projected.now ≡ false) }
     {
         match &self.opened {
-            Some(_) => drain_command(self.alloc, whole, node),
+            Some(_) => drain_command(self.alloc, projected, node),
             None => Err(Refusal::NotOpen),
         }
     }

@@ -28,19 +28,19 @@ fn migrate_if_any(ids: Sequence<AllocId>) -> Option<Command>
 /// What is proposed of a node's drain by a state, if anything is.
 pub(crate) fn drain_command(
     alloc: Global,
-    whole: &Cluster,
+    projected: &Cluster,
     node: NodeId,
 ) -> Result<Option<Command>, Refusal>
-    ensures ok { IfOk result (λ c. drain_command whole.now node ≡ Ok c) }
-    ensures err { let command = drain_command whole.now node in
+    ensures ok { IfOk result (λ c. drain_command projected.now node ≡ Ok c) }
+    ensures err { let command = drain_command projected.now node in
         IfErr result (λ e. (e ≡ refusals.NoMemory) ⊎ (command ≡ Err e)) }
-    ensures memory { let command = drain_command whole.now node in
+    ensures memory { let command = drain_command projected.now node in
         IfErr result (λ e. e ≡ refusals.NoMemory → is_ok command ≡ true) }
-    ensures lives { IfErr result (λ e. e ≡ refusals.NoMemory → is_done node whole.now ≡ false) }
+    ensures lives { IfErr result (λ e. e ≡ refusals.NoMemory → is_done node projected.now ≡ false) }
 {
-    whole.alloc_table().ranges();
-    let ids = next_moves(alloc, whole, node)?;
-    if is_done(whole, node) {
+    projected.alloc_table().ranges();
+    let ids = next_moves(alloc, projected, node)?;
+    if is_done(projected, node) {
         return Ok(Some(Command::DrainDone(node)));
     }
     Ok(migrate_if_any(ids))

@@ -1,9 +1,9 @@
 //! The parts of a desk that follow the applied state, entry by entry.
 ghost use Rattle.std.specs.Prelude.{◌≡◌, ◌≤◌, true, length, OnOk, OnErr};
-ghost use Rattle.cluster_model.specs.Words.{node_of};
+ghost use Rattle.fsm_model.specs.Words.{node_of};
 ghost use Rattle.group_model.specs.Brokers.{broker_over};
 ghost use Rattle.group_model.specs.Blocked.{blocked_over};
-ghost use Rattle.group_model.specs.Expiry.{beat_counts_over};
+ghost use Rattle.group_model.specs.Expiry.{heartbeat_counts_over};
 ghost use Rattle.blocked.specs.Rooms.{blocked_of};
 ghost use Rattle.leader.specs.Following.{AreOf, WereOf, has_just_room, tells_desk};
 ghost use Rattle.leader.specs.Inner.Changes.{broker_after, blocked_after};
@@ -135,7 +135,7 @@ pub fn follow(
         → blocked_of blocked.new ≡ blocked_over state.now) }
     ensures expiry { let old = blocked_of blocked.old in OnOk result (
         WereOf command.now state.now broker.old old expiry.old
-        → expiry.new ≡ beat_counts_over state.now.nodes expiry.old) }
+        → expiry.new ≡ heartbeat_counts_over state.now.nodes expiry.old) }
     ensures again { let old = blocked_of blocked.old in OnOk result (
         WereOf command.now state.now broker.old old expiry.old
         → AreOf state.now broker.new (blocked_of blocked.new) expiry.new) }

@@ -31,13 +31,13 @@ pub(crate) fn judge(
     alloc: Global,
     broker: &Broker,
     plan: &Plan,
-    whole: &Cluster,
+    projected: &Cluster,
 ) -> Result<Accepted, Refusal>
-    ensures ok { IfOk result (λ a. verdict whole.now broker.now plan.now ≡ Ok (kept_by a)) }
+    ensures ok { IfOk result (λ a. verdict projected.now broker.now plan.now ≡ Ok (kept_by a)) }
     ensures plan { IfOk result (λ a. a.plan ≡ plan_of_accepted plan.now (kept_by a)) }
-    ensures err { let judged = verdict whole.now broker.now plan.now in
+    ensures err { let judged = verdict projected.now broker.now plan.now in
         IfErr result (λ e. (e ≡ refusals.NoMemory) ⊎ (judged ≡ Err e)) }
-    ensures memory { let judged = verdict whole.now broker.now plan.now in
+    ensures memory { let judged = verdict projected.now broker.now plan.now in
         IfErr result (λ e. e ≡ refusals.NoMemory → is_ok judged ≡ true) }
 {
     let wait = broker.check(plan.eval, plan.token)?;
@@ -46,5 +46,5 @@ pub(crate) fn judge(
         token: plan.token,
         wait,
     };
-    accept(alloc, whole, plan, &delivery)
+    accept(alloc, projected, plan, &delivery)
 }

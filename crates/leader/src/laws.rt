@@ -2,7 +2,7 @@
 ghost use Rattle.leader.specs.GroupActs.{TakesByDeliver, SubmitsBySubmit, FinishesByAck, NacksByNack};
 ghost use Rattle.leader.specs.GroupActs.{LapsesByLapse, PlanTurnsByVerdict, FreesByFreeTurn, ReapsByReap};
 ghost use Rattle.leader.specs.GroupActs.{HeartbeatsByBeat, ExpiresByExpire, DrainsByDrainTurn};
-ghost use Rattle.leader.specs.Staying.{OpensOver, DeliverStays, AckStays, NackStays, LapseStays, SubmitStays, PlanTurnStays, BeatStays};
+ghost use Rattle.leader.specs.Staying.{OpensOver, DeliverStays, AckStays, NackStays, LapseStays, SubmitStays, PlanTurnStays, HeartbeatStays};
 
 /// What a server of the group makes of a request of a worker, of a client's heartbeat, or of a
 /// turn, at an open desk is told by the answer of the desk's call.
@@ -38,5 +38,5 @@ pub fn calls_stay_over_the_state()
     ensures lapse { LapseStays }
     ensures submit { SubmitStays }
     ensures plan_turn { PlanTurnStays }
-    ensures beat { BeatStays }
+    ensures beat { HeartbeatStays }
 {}

@@ -5,7 +5,7 @@ ghost use Rattle.leader.specs.Following.{tells_desk};
 ghost use Rattle.leader.specs.Staying.{Follows};
 ghost use Rattle.leader.specs.Errors.{desk_refusal};
 ghost use Rattle.leader.specs.Verdicts.{judged_by, IsProposal, on_plan_turn, first_passes};
-ghost use Rattle.leader.specs.OpenDesks.{IsOpened, has_due, on_deliver, on_outstanding, on_ack, on_nack, on_lapse, on_submit, on_free_turn, on_reap, on_beat, on_expire};
+ghost use Rattle.leader.specs.OpenDesks.{IsOpened, has_due, on_deliver, on_outstanding, on_ack, on_nack, on_lapse, on_submit, on_free_turn, on_reap, on_heartbeat, on_expire};
 
 use crate::desk_error::DeskError;
 use crate::expiring::expiry_command;
@@ -39,7 +39,7 @@ impl Model for OpenDesk {
     ghost Value = { AnyOpenDesk };
 
     ghost view = { λ o. record {
-      desk = record { broker = o.broker; plans = o.plans; beat_counts = o.expiry };
+      desk = record { broker = o.broker; plans = o.plans; heartbeat_counts = o.expiry };
       blocked = o.blocked;
       term = o.term;
     } };
@@ -69,7 +69,7 @@ impl OpenDesk {
 
     /// How often the nodes that are not down were heard of.
     pub fn expiry(&self) -> &Expiry
-        ensures { result.now ≡ self.now.desk.beat_counts }
+        ensures { result.now ≡ self.now.desk.heartbeat_counts }
     {
         &self.expiry
     }
@@ -173,26 +173,26 @@ impl OpenDesk {
     }
 
     /// The first evaluation that is due, and is still blocked after the whole log.
-    pub fn free_turn(&self, alloc: Global, whole: &Cluster) -> Result<Option<EvalId>, NoMemory>
-        ensures ok { IfOk result (λ id. on_free_turn whole.now self.now ≡ Ok id) }
+    pub fn free_turn(&self, alloc: Global, projected: &Cluster) -> Result<Option<EvalId>, NoMemory>
+        ensures ok { IfOk result (λ id. on_free_turn projected.now self.now ≡ Ok id) }
         ensures memory { OnErr result (has_due self.now ≡ true) }
     {
         let due = self.blocked.due(alloc)?;
-        Ok(first_blocked(due.as_slice(), whole))
+        Ok(first_blocked(due.as_slice(), projected))
     }
 
     /// The first evaluation that was given out three times, and is still pending after the whole
     /// log.
-    pub fn reap(&self, whole: &Cluster) -> Option<EvalId>
-        ensures { on_reap whole.now self.now ≡ Ok result }
+    pub fn reap(&self, projected: &Cluster) -> Option<EvalId>
+        ensures { on_reap projected.now self.now ≡ Ok result }
     {
-        first_pending(self.broker.failed(), whole)
+        first_pending(self.broker.failed(), projected)
     }
 
     /// A node was heard of once more.
     pub fn beat(&mut self, node: NodeId) -> Result<(), DeskError>
-        ensures ok { IfOk result (λ u. on_beat node self.old ≡ Ok (u, self.new)) }
-        ensures err { IfErr result (λ e. on_beat node self.old ≡ Err (desk_refusal e)) }
+        ensures ok { IfOk result (λ u. on_heartbeat node self.old ≡ Ok (u, self.new)) }
+        ensures err { IfErr result (λ e. on_heartbeat node self.old ≡ Err (desk_refusal e)) }
         ensures left { OnErr result (self.new ≡ self.old) }
     {
         Ok(self.expiry.beat(node)?)
@@ -218,17 +218,17 @@ impl OpenDesk {
     pub fn plan_turn(
         &mut self,
         alloc: Global,
-        whole: &Cluster,
+        projected: &Cluster,
     ) -> Result<Option<JudgedPlan>, NoMemory>
-        ensures turn { let turn = on_plan_turn whole.now self.old in
+        ensures turn { let turn = on_plan_turn projected.now self.old in
             IfOk result (λ j. turn ≡ Ok (option_map judged_by j, self.new)) }
         ensures proposal { IfOk result (λ j. IfSome j IsProposal) }
-        ensures memory { OnErr result (first_passes whole.now self.old ≡ true) }
+        ensures memory { OnErr result (first_passes projected.now self.old ≡ true) }
     {
         let Some(queued) = self.plans.pop() else {
             return Ok(None);
         };
-        let kept = match judge(alloc, &self.broker, &queued.plan, whole) {
+        let kept = match judge(alloc, &self.broker, &queued.plan, projected) {
             Err(Refusal::NoMemory) => return Err(NoMemory),
             kept => kept,
         };

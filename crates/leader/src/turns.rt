@@ -7,31 +7,31 @@ use fsm_tables::Urgency;
 use rows::{EvalId, EvalStatus};
 
 /// Whether an evaluation is blocked in a state.
-fn is_blocked(whole: &Cluster, id: EvalId) -> bool
-    ensures { result ≡ is_blocked_in whole.now id }
+fn is_blocked(projected: &Cluster, id: EvalId) -> bool
+    ensures { result ≡ is_blocked_in projected.now id }
 {
-    match whole.eval(id) {
+    match projected.eval(id) {
         Some(row) => row.status == EvalStatus::Blocked,
         None => false,
     }
 }
 
 /// Whether an evaluation is pending in a state.
-fn is_pending(whole: &Cluster, id: EvalId) -> bool
-    ensures { result ≡ is_pending_in whole.now id }
+fn is_pending(projected: &Cluster, id: EvalId) -> bool
+    ensures { result ≡ is_pending_in projected.now id }
 {
-    match whole.eval(id) {
+    match projected.eval(id) {
         Some(row) => row.status == EvalStatus::Pending,
         None => false,
     }
 }
 
 /// The first of the ids that is blocked in a state.
-pub(crate) fn first_blocked(ids: &[EvalId], whole: &Cluster) -> Option<EvalId>
-    ensures { result ≡ find (is_blocked_in whole.now) ids.now }
+pub(crate) fn first_blocked(ids: &[EvalId], projected: &Cluster) -> Option<EvalId>
+    ensures { result ≡ find (is_blocked_in projected.now) ids.now }
 {
     for id in ids {
-        if is_blocked(whole, *id) {
+        if is_blocked(projected, *id) {
             return Some(*id);
         }
     }
@@ -39,12 +39,12 @@ pub(crate) fn first_blocked(ids: &[EvalId], whole: &Cluster) -> Option<EvalId>
 }
 
 /// The first of the evaluations that is pending in a state.
-pub(crate) fn first_pending(urgencies: &[Urgency], whole: &Cluster) -> Option<EvalId>
-    ensures { let first = find (stands_pending whole.now) urgencies.now in
+pub(crate) fn first_pending(urgencies: &[Urgency], projected: &Cluster) -> Option<EvalId>
+    ensures { let first = find (stands_pending projected.now) urgencies.now in
         result ≡ option_map (λ u. u.id) first }
 {
     for urgency in urgencies {
-        if is_pending(whole, urgency.id) {
+        if is_pending(projected, urgency.id) {
             return Some(urgency.id);
         }
     }

@@ -1,6 +1,6 @@
 ghost use Rattle.std.specs.Prelude.{◌≡◌, ◌≤◌};
 ghost use Rattle.fields_model.specs.Format.{GivesExactly};
-ghost use Rattle.machine_model.specs.Tally.{tally, tally_meaning};
+ghost use Rattle.machine_model.specs.Tally.{tally, tally_spec};
 ghost use Rattle.machine_model.proofs.TallyLaws.{tally_is_lawful, tally_lawful};
 
 use fields::{Field, read_index, read_whole, write, write_index};
@@ -66,7 +66,7 @@ impl Field for Tally {
 impl Machine for Tally {
     type Command = TallyCommand;
 
-    ghost meaning = { tally_meaning };
+    ghost spec = { tally_spec };
 
     ghost lawful = { tally_lawful };
 

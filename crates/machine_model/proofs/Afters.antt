@@ -1,9 +1,9 @@
 -- What the laws give of the state after a list of commands, for every machine.
 use Rattle.std.proofs.Common.{None, length-append, ◌≡◌, ℕ, suc, ◌+◌, ◌^◌, ◌<◌, List, [], ◌∷◌, ◌++◌, length, refl, sym, ap, ◌∙◌, arith, add-zero}
-use Rattle.machine_model.specs.Meaning.{Meaning, LawfulMachine, IsStateOf, IsCommandOf}
+use Rattle.machine_model.specs.MachineSpec.{MachineSpec, LawfulMachine, IsStateOf, IsCommandOf}
 use Rattle.machine_model.specs.After.{after_from, after, AdmittedFrom, Admitted}
 
-module _ {S C : Type 0} (m : Meaning S C) (law : LawfulMachine m) where
+module _ {S C : Type 0} (m : MachineSpec S C) (law : LawfulMachine m) where
   -- a state of the machine, safe, with its count
   pub record GoodAt (n : ℕ) (s : S) : Type 0 where
     pub state : IsStateOf m s
@@ -31,7 +31,7 @@ module _ {S C : Type 0} (m : Meaning S C) (law : LawfulMachine m) where
       let same : 0 + length cs ≡ length cs = omega arith in
       rw (← same) (after_from_good m.empty cs 0 first (omega (arith, a.short)) a.each)
 
-module _ {S C : Type 0} (m : Meaning S C) where
+module _ {S C : Type 0} (m : MachineSpec S C) where
   -- what follows a list goes on from the state after it
   pub after_from-append : (s : S) (xs ys : List C) → after_from m s (xs ++ ys) ≡ after_from m (after_from m s xs) ys
   after_from-append s [] ys = refl
@@ -49,7 +49,7 @@ module _ {S C : Type 0} (m : Meaning S C) where
     each = AdmittedFrom-append m.empty cs (c ∷ []) a.each (is, none, tt);
   }
 
-module _ {S C : Type 0} (m : Meaning S C) (law : LawfulMachine m) where
+module _ {S C : Type 0} (m : MachineSpec S C) (law : LawfulMachine m) where
   -- each command adds one to the count
   pub after_from-count : (s : S) (cs : List C) → m.count (after_from m s cs) ≡ m.count s + length cs
   after_from-count s [] = sym (add-zero (m.count s))

@@ -6,9 +6,9 @@ use Rattle.rows.specs.declared.refusal.Refusal.TheVariants.{OutOfRange}
 use Rattle.fields_model.specs.Format.{Lawful}
 use Rattle.fields_model.proofs.FormatLaws.{number_lawful, flag_lawful, nothing_lawful, then_lawful, made_lawful, no_choice, variant_choice, choice_lawful}
 use Rattle.fields_model.proofs.FieldLaws.{index_lawful}
-use Rattle.machine_model.specs.Meaning.{LawfulMachine, IsMachineRefusal}
+use Rattle.machine_model.specs.MachineSpec.{LawfulMachine, IsMachineRefusal}
 use Rattle.machine_model.specs.TallyState.{TallyState}
-use Rattle.machine_model.specs.Tally.{amount, tally, tag_of, noop_of, add_of, tally_command, raised, tally_applied, tally_admission, tally_meaning}
+use Rattle.machine_model.specs.Tally.{amount, tally, tag_of, noop_of, add_of, tally_command, raised, tally_applied, tally_admission, tally_spec}
 use Rattle.machine_model.specs.declared.tally.TallyCommand.{TallyCommand}
 use Rattle.machine_model.specs.declared.tally.TallyCommand.TheVariants.{Noop, Add}
 
@@ -61,7 +61,7 @@ refusal_is_its_own : (s : TallyState) (c : TallyCommand) (r : Refusal) → tally
 refusal_is_its_own s Noop r e = absurd cc
 refusal_is_its_own s (Add k) r e = its_own (ltb (s.sum + k) 1001) r e
 
-pub tally_lawful : LawfulMachine tally_meaning
+pub tally_lawful : LawfulMachine tally_spec
 tally_lawful = record {
   states_lawful = λ version. tally_is_lawful;
   commands_lawful = λ version. tally_command_lawful;

@@ -1,4 +1,4 @@
-pub mod Meaning
+pub mod MachineSpec
 pub mod After
 pub mod TallyState
 pub mod Tally

@@ -5,7 +5,7 @@ use Rattle.rows.specs.declared.refusal.Refusal.{Refusal}
 use Rattle.rows.specs.declared.refusal.Refusal.TheVariants.{OutOfRange}
 use Rattle.fields_model.specs.Format.{Format, number, nothing, ◌then◌, made, tagged, variant, never, choice}
 use Rattle.fields_model.specs.Fields.{index}
-use Rattle.machine_model.specs.Meaning.{Meaning}
+use Rattle.machine_model.specs.MachineSpec.{MachineSpec}
 use Rattle.machine_model.specs.TallyState.{TallyState}
 use Rattle.machine_model.specs.declared.tally.TallyCommand.{TallyCommand}
 use Rattle.machine_model.specs.declared.tally.TallyCommand.TheVariants.{Noop, Add}
@@ -58,8 +58,8 @@ tally_admission s (Add k) = if nat_lt (s.sum + k) 1001 then None else Some OutOf
 
 -- the tally as a machine: its texts are the same in each version, and it is safe where its sum is at
 -- most 1,000
-abbrev pub tally_meaning : Meaning TallyState TallyCommand
-tally_meaning = record {
+abbrev pub tally_spec : MachineSpec TallyState TallyCommand
+tally_spec = record {
   states = λ _. tally;
   commands = λ _. tally_command;
   safe = λ s. s.sum ≤ 1000;

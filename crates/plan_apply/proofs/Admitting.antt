@@ -20,13 +20,13 @@ use Rattle.fsm_tables.specs.Claims.{Claim}
 use Rattle.fsm_tables.specs.Rows.{row_of}
 use Rattle.fsm_tables.proofs.RowLaws.{both, first, second}
 use Rattle.fsm_tables.proofs.Filters.{found_at}
-use Rattle.cluster_model.specs.Words.{State, same_alloc, job_of, node_of, eval_of, is_some_and, is_pending, no_job}
-use Rattle.cluster_model.specs.Safe.{are_distinct, is_safe}
-use Rattle.cluster_model.specs.Effect.{stop, with_next_count, planned}
-use Rattle.cluster_model.specs.Admission.{first_of, is_live_of, is_stopped, is_asked, fits_job}
-use Rattle.cluster_model.specs.Plans.{room_of, fits_number, kept_claims, wanted, left_by, FitsWhereAsked}
-use Rattle.cluster_model.proofs.SafeLaws.{Fewer, nothing, kept, gone, fewer_distinct, fewer_used}
-use Rattle.cluster_model.proofs.AfterLaws.{planned_is_safe}
+use Rattle.fsm_model.specs.Words.{State, same_alloc, job_of, node_of, eval_of, is_some_and, is_pending, no_job}
+use Rattle.fsm_model.specs.Safe.{are_distinct, is_safe}
+use Rattle.fsm_model.specs.Effect.{stop, with_next_count, planned}
+use Rattle.fsm_model.specs.Admission.{first_of, is_live_of, is_stopped, is_asked, fits_job}
+use Rattle.fsm_model.specs.Plans.{room_of, fits_number, kept_claims, wanted, left_by, FitsWhereAsked}
+use Rattle.fsm_model.proofs.SafeLaws.{Fewer, nothing, kept, gone, fewer_distinct, fewer_used}
+use Rattle.fsm_model.proofs.AfterLaws.{planned_is_safe}
 use Rattle.group_model.specs.Acceptance.{Accepted, once_after, kept_stops, kept_where, with_kept, claimed, on, keep_places, keep_upto, keep, is_eval_of, accept_of, accept, plan_of_accepted}
 use Rattle.group_model.proofs.PlanLimits.{accept_fits}
 use Rattle.fsm_state.proofs.Claimed.{left_fewer}

@@ -5,9 +5,9 @@ use Rattle.std.specs.List.{list_all, list_any}
 use Rattle.std.proofs.lemmas.List.Sums.{length-filter, sum_by-append, sum_by-cons}
 use Rattle.fsm_tables.specs.Claims.{Claim}
 use Rattle.fsm_tables.proofs.RowLaws.{first, second}
-use Rattle.cluster_model.specs.Safe.{same_name, are_distinct}
-use Rattle.cluster_model.proofs.NameLaws.{named, join, count_distinct, distinct_count}
-use Rattle.cluster_model.proofs.Lists.{same_truth}
+use Rattle.fsm_model.specs.Safe.{same_name, are_distinct}
+use Rattle.fsm_model.proofs.NameLaws.{named, join, count_distinct, distinct_count}
+use Rattle.fsm_model.proofs.Lists.{same_truth}
 use Rattle.group_model.specs.Acceptance.{is_held_once}
 use Rattle.fsm_state.proofs.Alone.{turned_name}
 

@@ -7,7 +7,7 @@ use Rattle.rows.specs.declared.node.Node.{Node}
 use Rattle.rows.specs.declared.plan.Place.{Place}
 use Rattle.rows.specs.declared.plan.Plan.{Plan}
 use Rattle.rows.specs.declared.command.AcceptedPlace.{AcceptedPlace}
-use Rattle.cluster_model.specs.Words.{State, node_of}
+use Rattle.fsm_model.specs.Words.{State, node_of}
 use Rattle.fsm_tables.specs.Claims.{Claim}
 use Rattle.group_model.specs.Acceptance.{Accepted, sized_on, bears, on, kept_where, with_kept, claimed, keep_places, keep_upto}
 use Rattle.plan_apply.specs.Inner.Overlay.{all_sized}

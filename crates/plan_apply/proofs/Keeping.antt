@@ -21,18 +21,18 @@ use Rattle.fsm_tables.specs.Claims.{Claim, claims, on_node, used}
 use Rattle.fsm_tables.specs.Rows.{row_of}
 use Rattle.fsm_tables.proofs.RowLaws.{both, first, second}
 use Rattle.fsm_tables.proofs.Filters.{found_at}
-use Rattle.cluster_model.specs.Words.{State, node_of, is_some_and}
+use Rattle.fsm_model.specs.Words.{State, node_of, is_some_and}
 use Rattle.rows.specs.Sizes.{Part, amount, fits}
 use Rattle.rows.proofs.SizeLaws.{size_itself}
 use Rattle.fsm_tables.proofs.Uses.{same_use}
-use Rattle.cluster_model.specs.Safe.{is_within, are_distinct, are_safe}
-use Rattle.cluster_model.specs.SafeFacts.{Safe}
-use Rattle.cluster_model.specs.Effect.{stop}
-use Rattle.cluster_model.specs.Admission.{may_hold, is_asked}
-use Rattle.cluster_model.specs.Plans.{room_of, fits_number}
-use Rattle.cluster_model.proofs.SafeFacts.{test_by_safe}
-use Rattle.cluster_model.proofs.SafeLaws.{stop_releases, released, fewer_safe, distinct_of}
-use Rattle.cluster_model.proofs.UseLaws.{number_fits}
+use Rattle.fsm_model.specs.Safe.{is_within, are_distinct, are_safe}
+use Rattle.fsm_model.specs.SafeFacts.{Safe}
+use Rattle.fsm_model.specs.Effect.{stop}
+use Rattle.fsm_model.specs.Admission.{may_hold, is_asked}
+use Rattle.fsm_model.specs.Plans.{room_of, fits_number}
+use Rattle.fsm_model.proofs.SafeFacts.{test_by_safe}
+use Rattle.fsm_model.proofs.SafeLaws.{stop_releases, released, fewer_safe, distinct_of}
+use Rattle.fsm_model.proofs.UseLaws.{number_fits}
 use Rattle.group_model.specs.Acceptance.{Accepted, is_group_of, with_group_size, sized_on, claim_at, place_claims, is_held_once, bears, on, kept_on, kept_where, with_kept, claimed, keep_places, keep_upto}
 use Rattle.plan_apply.specs.Inner.Overlay.{stops_alone}
 use Rattle.plan_apply.proofs.Alone.{once_is_distinct}

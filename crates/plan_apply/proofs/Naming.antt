@@ -11,12 +11,12 @@ use Rattle.fsm_tables.specs.Claims.{Claim, claim_of, claims, is_live}
 use Rattle.fsm_tables.specs.LiveNames.{is_called, live_named}
 use Rattle.fsm_tables.specs.declared.name.AllocName.{AllocName}
 use Rattle.fsm_tables.proofs.RowLaws.{first, second}
-use Rattle.cluster_model.specs.Words.{same_alloc}
-use Rattle.cluster_model.specs.Effect.{stop}
-use Rattle.cluster_model.specs.Safe.{same_name, are_distinct}
-use Rattle.cluster_model.proofs.SafeLaws.{stop_releases}
-use Rattle.cluster_model.proofs.NameLaws.{itself}
-use Rattle.cluster_model.proofs.Lists.{same_truth, anys_same}
+use Rattle.fsm_model.specs.Words.{same_alloc}
+use Rattle.fsm_model.specs.Effect.{stop}
+use Rattle.fsm_model.specs.Safe.{same_name, are_distinct}
+use Rattle.fsm_model.proofs.SafeLaws.{stop_releases}
+use Rattle.fsm_model.proofs.NameLaws.{itself}
+use Rattle.fsm_model.proofs.Lists.{same_truth, anys_same}
 use Rattle.group_model.specs.Acceptance.{claim_at, place_claims, is_held_once}
 use Rattle.fsm_state.specs.Inner.Alone.{claim_name, is_free_but}
 use Rattle.fsm_state.proofs.Alone.{turned_name, stop_lives, free_of}

@@ -11,12 +11,12 @@ use Rattle.rows.specs.Sizes.{amount, plus, fits}
 use Rattle.rows.proofs.SizeLaws.{amount_of_plus, same_in_each}
 use Rattle.fsm_tables.proofs.Uses.{use_is}
 use Rattle.fsm_tables.specs.Claims.{Claim, claim_of, claims, on_node, used}
-use Rattle.cluster_model.specs.Words.{State}
-use Rattle.cluster_model.specs.Effect.{stop}
-use Rattle.cluster_model.specs.Safe.{is_within}
-use Rattle.cluster_model.specs.Plans.{ended}
-use Rattle.cluster_model.proofs.SafeLaws.{stop_releases}
-use Rattle.cluster_model.proofs.UseLaws.{released_sum}
+use Rattle.fsm_model.specs.Words.{State}
+use Rattle.fsm_model.specs.Effect.{stop}
+use Rattle.fsm_model.specs.Safe.{is_within}
+use Rattle.fsm_model.specs.Plans.{ended}
+use Rattle.fsm_model.proofs.SafeLaws.{stop_releases}
+use Rattle.fsm_model.proofs.UseLaws.{released_sum}
 use Rattle.group_model.specs.Acceptance.{place_claims}
 use Rattle.fsm_state.proofs.Alone.{ended_sum, gone_sum, plus_use, room_with}
 use Rattle.plan_apply.specs.Inner.Stops.{AreEnded}

@@ -13,9 +13,9 @@ use Rattle.fsm_tables.specs.Rows.{row_of}
 use Rattle.fsm_tables.specs.Claims.{Claim, claim_of, is_live}
 use Rattle.fsm_tables.specs.Lookups.{lives_for}
 use Rattle.fsm_tables.proofs.Filters.{row_found}
-use Rattle.cluster_model.specs.Words.{State, same_alloc, alloc_of, is_some_and}
-use Rattle.cluster_model.specs.Admission.{is_live_of}
-use Rattle.cluster_model.proofs.Lists.{or_false}
+use Rattle.fsm_model.specs.Words.{State, same_alloc, alloc_of, is_some_and}
+use Rattle.fsm_model.specs.Admission.{is_live_of}
+use Rattle.fsm_model.proofs.Lists.{or_false}
 use Rattle.group_model.specs.Acceptance.{once_after, kept_stops}
 use Rattle.fsm_state.specs.Inner.Alone.{claim_if_live, ended_by}
 use Rattle.plan_apply.specs.Inner.Stops.{with_stopped, with_live_stop, AreEnded}

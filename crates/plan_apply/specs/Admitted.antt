@@ -5,11 +5,11 @@ use Rattle.rows.specs.declared.refusal.Refusal.{Refusal}
 use Rattle.rows.specs.declared.refusal.Refusal.TheVariants as refusals
 use Rattle.rows.specs.declared.command.Command.TheVariants as commands
 use Rattle.rows.specs.Fits.{PlanFits}
-use Rattle.cluster_model.specs.Words.{State, eval_of, is_some_and, is_pending}
+use Rattle.fsm_model.specs.Words.{State, eval_of, is_some_and, is_pending}
 use Rattle.rows.specs.States.{IsState}
-use Rattle.cluster_model.specs.SafeFacts.{Safe}
+use Rattle.fsm_model.specs.SafeFacts.{Safe}
 use Rattle.rows.specs.Limits.{most_allocs}
-use Rattle.cluster_model.specs.Admission.{admission}
+use Rattle.fsm_model.specs.Admission.{admission}
 use Rattle.group_model.specs.Acceptance.{Accepted, accept, plan_of_accepted}
 
 -- the table has no room for the places that are kept

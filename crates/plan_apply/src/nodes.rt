@@ -1,7 +1,7 @@
 //! The places of a plan, node by node: of each node all or none.
 ghost use Rattle.std.specs.Prelude.{◌≡◌, ◌+◌, ◌++◌, ◌≤◌, ◌&&◌, Some, IfOk, OnOk, length, map};
 ghost use Rattle.rows.specs.Keys.{alloc_id};
-ghost use Rattle.cluster_model.specs.Words.{node_of};
+ghost use Rattle.fsm_model.specs.Words.{node_of};
 ghost use Rattle.group_model.specs.Acceptance.{bears, claimed, on, kept_where, keep_places, keep_upto};
 ghost use Rattle.plan_apply.specs.Inner.Overlay.{kept_so_far, stops_alone};
 ghost use Rattle.plan_apply.specs.Inner.Stops.{AreEnded};

@@ -1,6 +1,6 @@
 //! Whether a node has room for places.
 ghost use Rattle.std.specs.Prelude.{◌≡◌, ◌+◌, ◌++◌, ◌≤◌, length};
-ghost use Rattle.cluster_model.specs.Safe.{is_within};
+ghost use Rattle.fsm_model.specs.Safe.{is_within};
 ghost use Rattle.group_model.specs.Acceptance.{place_claims, claimed};
 ghost use Rattle.plan_apply.specs.Inner.Overlay.{kept_so_far};
 ghost use Rattle.plan_apply.specs.Inner.Stops.{AreEnded};

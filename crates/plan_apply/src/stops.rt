@@ -3,7 +3,7 @@ ghost use Rattle.std.specs.Prelude.{◌≡◌, IfOk, OnOk, map};
 ghost use Rattle.std.specs.List.{list_any};
 ghost use Rattle.rows.specs.Keys.{alloc_id};
 ghost use Rattle.fsm_tables.specs.Lookups.{lives_for};
-ghost use Rattle.cluster_model.specs.Words.{same_alloc};
+ghost use Rattle.fsm_model.specs.Words.{same_alloc};
 ghost use Rattle.group_model.specs.Acceptance.{kept_stops};
 ghost use Rattle.plan_apply.specs.Inner.Stops.{with_stopped, with_live_stop, AreEnded};
 

@@ -3,7 +3,7 @@ use Rattle.std.specs.Prelude.{◌≡◌, ℕ, Option, Some, None, Result, Ok, Er
 use Rattle.rows.specs.declared.plan.Plan.{Plan}
 use Rattle.rows.specs.declared.refusal.Refusal.{Refusal}
 use Rattle.rows.specs.declared.refusal.Refusal.TheVariants as refusals
-use Rattle.cluster_model.specs.Worked.Words.{web, eval_id}
+use Rattle.fsm_model.specs.Worked.Words.{web, eval_id}
 use Rattle.group_model.specs.Order.{Picked}
 use Rattle.group_model.specs.Desks.{QueuedPlan}
 use Rattle.group_model.specs.Queues.{queued_plan, plans_with, first_plan}

@@ -2,7 +2,7 @@
 -- log, after a step too.
 use Rattle.std.proofs.Common.{◌≡◌, ℕ, suc, ◌+◌, ◌≤◌, inl, inr, Bool, true, false, ◌&&◌, ◌||◌, cond, leb, eqb, nat_le, Ok, List, [], ◌∷◌, ◌++◌, length, take, drop, refl, sym, subst, arith, length-append, length-take-le}
 use Rattle.std.proofs.lemmas.Bool.{leb-true, leb-false}
-use Rattle.machine_model.specs.Meaning.{Meaning}
+use Rattle.machine_model.specs.MachineSpec.{MachineSpec}
 use Rattle.machine_model.specs.declared.entry.Entry.{Entry}
 use Rattle.raft_model.specs.Logs.{term_at, last_term, has, merge, install}
 use Rattle.raft_model.specs.Messages.{Message}
@@ -68,7 +68,7 @@ module _ {C : Type 0} where
     | inr b ↦ rw b (record { covered = omega arith; commit = install_length s.log P })
   ]
 
-module _ {S C : Type 0} (m : Meaning S C) (n i : ℕ) (sent : List (Message C)) where
+module _ {S C : Type 0} (m : MachineSpec S C) (n i : ℕ) (sent : List (Message C)) where
   same : (s t u : Raft C) → t ≡ u → InBounds u → InBounds t
   same s t u e is = subst InBounds (sym e) is
 

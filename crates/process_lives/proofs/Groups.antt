@@ -6,8 +6,8 @@ use Rattle.std.specs.List.{AllZip, AllByRecursion}
 use Rattle.rows.specs.declared.node.NodeSpec.{NodeSpec}
 use Rattle.rows.specs.declared.allocation.AllocId.{AllocId}
 use Rattle.rows.specs.declared.command.Command.{Command}
-use Rattle.cluster_model.specs.ClusterMachine.{cluster_meaning}
-use Rattle.cluster_model.specs.Words.{State}
+use Rattle.fsm_model.specs.ClusterMachine.{cluster_spec}
+use Rattle.fsm_model.specs.Words.{State}
 use Rattle.raft_model.specs.Rafts.{Raft, restarted}
 use Rattle.group_model.specs.Messages.{GroupMessage}
 use Rattle.group_model.specs.Agents as agents
@@ -54,7 +54,7 @@ zip_both Such (x ∷ xs) more (y ∷ ys) others p q = (p.0, zip_both Such xs mor
 abbrev CarriesFitting : List ℕ → GroupMessage → Type 0
 CarriesFitting bytes message = CarriesFrame bytes message × GroupMessageFits message
 
-all_sent : (outs : List IoEvent) (frames : List Frame) (messages : List GroupMessage) → AreSent outs frames → AllZip (CarriesGroup cluster_meaning) frames messages → AllByRecursion GroupMessageFits messages → Sends IsFrameItem CarriesFitting outs messages
+all_sent : (outs : List IoEvent) (frames : List Frame) (messages : List GroupMessage) → AreSent outs frames → AllZip (CarriesGroup cluster_spec) frames messages → AllByRecursion GroupMessageFits messages → Sends IsFrameItem CarriesFitting outs messages
 all_sent outs frames [] sent_none carry fit = sends_nothing
 all_sent outs frames (x ∷ messages) sent_none carry fit = absurd carry
 all_sent outs all [] (sends_frame {events = events} {frames = frames} frame rest) carry fit = absurd carry
@@ -107,7 +107,7 @@ record TookAll (n : ℕ) (nodes : List NodeSpec) (k : Who) (left : List GroupMes
   sent : List GroupMessage
   takes : TakesInTurn (group_actors n nodes) k left a actor after sent
   is_so : IsSo actor
-  carry : AllZip (CarriesGroup cluster_meaning) frames sent
+  carry : AllZip (CarriesGroup cluster_spec) frames sent
   fit : AllByRecursion GroupMessageFits sent
 
 module _ (n : ℕ) (nodes : List NodeSpec) (k : Who) (left : List GroupMessage) {V : Type 0} (Shows : V → GroupActor → Type 0) (Stays : V → V → Type 0)
@@ -130,7 +130,7 @@ module _ (n : ℕ) (nodes : List NodeSpec) (k : Who) (left : List GroupMessage) 
         sent = r.sent ++ t.sent;
         takes = one_more input t.actor t.sent r.takes ((is_simulated n nodes).grows some left k r.actor t.actor input t.sent on is.0);
         is_so = is.1;
-        carry = zip_both (CarriesGroup cluster_meaning) frames more r.sent t.sent r.carry t.carry;
+        carry = zip_both (CarriesGroup cluster_spec) frames more r.sent t.sent r.carry t.carry;
         fit = each_both GroupMessageFits r.sent t.sent r.fit is.2;
       }
 
@@ -155,7 +155,7 @@ module _ (n : ℕ) (nodes : List NodeSpec) (k : Who) (left : List GroupMessage) 
     sent = r.sent;
     takes = r.takes;
     is_so = same mid new r.actor r.is_so stays (shows r.actor (shown mid r.actor r.is_so));
-    carry = subst (λ l. AllZip (CarriesGroup cluster_meaning) l r.sent) (sym (append-nil frames)) r.carry;
+    carry = subst (λ l. AllZip (CarriesGroup cluster_spec) l r.sent) (sym (append-nil frames)) r.carry;
     fit = r.fit;
   }
   then_hands mid new frames more r (takes_in handed all stays means t) = then_handed mid new frames more handed means r stays t
@@ -168,13 +168,13 @@ module _ (n : ℕ) (nodes : List NodeSpec) (k : Who) (left : List GroupMessage) 
 
 -- a server of the definitions that code's value is, in a group of n
 module _ {V : Type 0} (raft : V → RaftView State Command) (Shows : V → Server → Type 0) (n : ℕ) (nodes : List NodeSpec) (c : Code ℕ V (Stored State Command)) (runs : RunsGroupServers raft Shows n c) (k : ℕ) where
-  record StandsFor (v : V) (s : Server) : Type 0 where
+  record IsCompactionOf (v : V) (s : Server) : Type 0 where
     shows : Shows v s
-    log : StandsForRaft cluster_meaning n k (raft v) s.raft
+    log : StandsForRaft cluster_spec n k (raft v) s.raft
     desk : DeskFits s.desk
 
   abbrev Stands : V → GroupActor → Type 0
-  Stands v (GroupServer s) = StandsFor v s
+  Stands v (GroupServer s) = IsCompactionOf v s
   Stands v (GroupClient x) = ⊥
 
   stands_shown : (v : V) (a : GroupActor) → Stands v a → ShowsServer raft Shows v a
@@ -182,13 +182,13 @@ module _ {V : Type 0} (raft : V → RaftView State Command) (Shows : V → Serve
   stands_shown v (GroupClient x) is = absurd is
 
   -- a server that is in bounds, after what stays
-  stands_after : (old new : V) (s t : Server) → StandsFor old s → StaysServer raft Shows old new → Shows new t → InBounds t.raft → DeskFits t.desk → StandsFor new t
+  stands_after : (old new : V) (s t : Server) → IsCompactionOf old s → StaysServer raft Shows old new → Shows new t → InBounds t.raft → DeskFits t.desk → IsCompactionOf new t
   stands_after old new s t is stays shows bounds desk =
-      let r = runs.represents new t shows in
+      let r = runs.refines new t shows in
       let covered = sym (ap (λ (x : Raft Command). x.covered) is.log.stands.is) ∙ sym is.log.based in
       record {
         shows = shows;
-        log = record { stands = r; me = stays.same.0 ∙ is.log.me; size = stays.same.1 ∙ is.log.size; based = covers_same cluster_meaning n (raft new) t.raft r bounds (stays.based covered); bounds = bounds };
+        log = record { stands = r; me = stays.same.0 ∙ is.log.me; size = stays.same.1 ∙ is.log.size; based = covers_same cluster_spec n (raft new) t.raft r bounds (stays.based covered); bounds = bounds };
         desk = desk;
       }
 
@@ -199,7 +199,7 @@ module _ {V : Type 0} (raft : V → RaftView State Command) (Shows : V → Serve
   abbrev ServerNext : V → List GroupMessage → GroupActor → Item → GroupActor → List GroupMessage → Type 0
   ServerNext new some a input b out = GroupTakes n some (ServerOf k) a input b out × Stands new b × AllByRecursion GroupMessageFits out
 
-  server_next : (old new : V) (s : Server) (some : List GroupMessage) (input : Item) (b : GroupActor) (out : List GroupMessage) → StandsFor old s → ServerIsInRange s → StaysServer raft Shows old new → ItemFits input → ComesWithin input
+  server_next : (old new : V) (s : Server) (some : List GroupMessage) (input : Item) (b : GroupActor) (out : List GroupMessage) → IsCompactionOf old s → ServerIsInRange s → StaysServer raft Shows old new → ItemFits input → ComesWithin input
       → GroupTakes n some (ServerOf k) (GroupServer s) input b out → ShowsServer raft Shows new b → ServerNext new some (GroupServer s) input b out
   server_next old new s some input (GroupServer t) out is range stays fits come takes shows =
       let after = server_fits n k s t some (GroupServer s) (GroupServer t) input out range fits come takes refl refl in
@@ -281,7 +281,7 @@ module _ {V W : Type 0} (raft : V → RaftView State Command) (Shows : V → Ser
     StandsAs (ClientOf k) (ForClient w) a = StandsClient size agent n nodes k w a
 
     abbrev KeepsAs : Who → ByKind (Stored State Command) (List AllocId) → GroupStore → Type 0
-    KeepsAs (ServerOf i) (ForServer part) (OfServer p) = Stores cluster_meaning part (started p)
+    KeepsAs (ServerOf i) (ForServer part) (OfServer p) = Stores cluster_spec part (started p)
     KeepsAs (ServerOf i) (ForServer part) (OfClient node ids) = ⊥
     KeepsAs (ServerOf i) (ForClient mine) store = ⊥
     KeepsAs (ClientOf k) (ForServer part) store = ⊥
@@ -326,7 +326,7 @@ module _ {V W : Type 0} (raft : V → RaftView State Command) (Shows : V → Ser
     shows_begun : (k : Who) (store : Option (List ℕ)) (v : ByKind V W) (q : GroupStore) → Both.BeginsWith k store v → KeepsAs k (Both.part v) q → StandsAs k v (groups.begun_by q)
     shows_begun (ServerOf i) store (ForServer v) (OfServer p) from mine_kept = record {
       shows = runs.starts i store v from (started p) mine_kept;
-      log = shows_started cluster_meaning n i (raft v) p (runs.place i store v from) (λ s stored. runs.represents v (record { raft = restarted s; desk = None }) (runs.starts i store v from s stored)) mine_kept;
+      log = shows_started cluster_spec n i (raft v) p (runs.place i store v from) (λ s stored. runs.refines v (record { raft = restarted s; desk = None }) (runs.starts i store v from s stored)) mine_kept;
       desk = tt;
     }
     shows_begun (ServerOf i) store (ForServer v) (OfClient node ids) from mine_kept = absurd mine_kept
@@ -346,7 +346,7 @@ module _ {V W : Type 0} (raft : V → RaftView State Command) (Shows : V → Ser
         }
 
     keeps_stored_by : (k : Who) (v : ByKind V W) (a : GroupActor) → StandsAs k v a → KeepsAs k (Both.part v) (groups.store_of a)
-    keeps_stored_by (ServerOf i) (ForServer v) (GroupServer s) is = keeps_stored cluster_meaning n i (raft v) s.raft is.log
+    keeps_stored_by (ServerOf i) (ForServer v) (GroupServer s) is = keeps_stored cluster_spec n i (raft v) s.raft is.log
     keeps_stored_by (ServerOf i) (ForServer v) (GroupClient x) is = absurd is
     keeps_stored_by (ServerOf i) (ForClient w) a is = absurd is
     keeps_stored_by (ClientOf k) (ForServer v) a is = absurd is
@@ -359,7 +359,7 @@ module _ {V W : Type 0} (raft : V → RaftView State Command) (Shows : V → Ser
     abbrev TurnedSo : Who → List GroupMessage → GroupActor → ByKind V W → List IoEvent → Type 0
     TurnedSo k left a new outs = Turned Both (group_actors n nodes) StandsAs KeepsAs CarriesFitting k left a new outs
 
-    server_turns : (i : ℕ) (left : List GroupMessage) (item : List ℕ) (old new : V) (outs : List IoEvent) (s : Server) → StandsFor raft Shows n nodes ServerCode runs i old s → IsReached (group_actors n nodes) (ServerOf i) left (GroupServer s) → Turn item old new outs → Come left item → TurnedSo (ServerOf i) left (GroupServer s) (ForServer new) outs
+    server_turns : (i : ℕ) (left : List GroupMessage) (item : List ℕ) (old new : V) (outs : List IoEvent) (s : Server) → IsCompactionOf raft Shows n nodes ServerCode runs i old s → IsReached (group_actors n nodes) (ServerOf i) left (GroupServer s) → Turn item old new outs → Come left item → TurnedSo (ServerOf i) left (GroupServer s) (ForServer new) outs
     server_turns i left item old new outs s is reached turn come =
         let t = runs.turn i item old new outs is.log.me is.log.size turn in
         let r = hands_all n nodes (ServerOf i) left (ShowsServer raft Shows) (StaysServer raft Shows) (Stands raft Shows n nodes ServerCode runs i) (stands_shown raft Shows n nodes ServerCode runs i) (stands_same raft Shows n nodes ServerCode runs i)

@@ -15,9 +15,9 @@ use Rattle.machine_model.proofs.Afters.{after_good}
 use Rattle.raft_model.specs.Logs as logs_model
 use Rattle.raft_safety.proofs.Chains as chains
 use Rattle.raft_safety.proofs.Sound.{Sound, first_sound, sound_admitted}
-use Rattle.cluster_model.specs.Words.{is_pending}
-use Rattle.cluster_model.specs.ClusterMachine.{cluster_meaning}
-use Rattle.cluster_model.proofs.ClusterMachine.{cluster_lawful}
+use Rattle.fsm_model.specs.Words.{is_pending}
+use Rattle.fsm_model.specs.ClusterMachine.{cluster_spec}
+use Rattle.fsm_model.proofs.ClusterMachine.{cluster_lawful}
 use Rattle.group_model.specs.Messages.{GroupMessage, OfLog, Service, ServiceMessage}
 use Rattle.group_model.specs.Brokers.{Task, Key, task_key, eval_key}
 use Rattle.group_model.specs.Desks.{Desk, applied_state}
@@ -67,16 +67,16 @@ module _ (n : ℕ) (nodes : List NodeSpec) (events : List Event) (past : List Wo
   p : Projection n events past w
   p = projection n nodes events past w run
 
-  sound : Sound cluster_meaning s.raft.log
-  sound = chains.log_admitted cluster_meaning cluster_lawful n p.log_events p.log_past (raft_of w) p.run (p.place l) i s.raft (to_log n events past w p l i s.raft (server_log past w l i s now))
+  sound : Sound cluster_spec s.raft.log
+  sound = chains.log_admitted cluster_spec cluster_lawful n p.log_events p.log_past (raft_of w) p.run (p.place l) i s.raft (to_log n events past w p l i s.raft (server_log past w l i s now))
 
-  state_is : (log : List (Entry Command)) → Sound cluster_meaning log → IsState (logs_model.state_after cluster_meaning log)
+  state_is : (log : List (Entry Command)) → Sound cluster_spec log → IsState (logs_model.state_after cluster_spec log)
   state_is log h =
-      let g = after_good cluster_meaning cluster_lawful (logs_model.commands log) (sound_admitted cluster_meaning log h) in
-      state_fits newest (logs_model.state_after cluster_meaning log) g.state
+      let g = after_good cluster_spec cluster_lawful (logs_model.commands log) (sound_admitted cluster_spec log h) in
+      state_fits newest (logs_model.state_after cluster_spec log) g.state
 
   applied_is : IsState (applied_state s.raft)
-  applied_is = state_is (take s.raft.commit s.raft.log) (first_sound cluster_meaning s.raft.commit s.raft.log sound)
+  applied_is = state_is (take s.raft.commit s.raft.log) (first_sound cluster_spec s.raft.commit s.raft.log sound)
 
   tasks_by : (d : Desk) → s.desk ≡ Some d → DeskIs s → AllByRecursion TaskFits d.broker.tasks
   tasks_by d e (inl h) = absurd (let q = sym (h.0) ∙ e in cc)

@@ -6,7 +6,7 @@ use Rattle.std.proofs.lemmas.Bool.{eqb-true}
 use Rattle.std.proofs.lemmas.Bool.Decides.{eqb_tells}
 use Rattle.rows.specs.declared.refusal.Refusal.{Refusal}
 use Rattle.rows.specs.declared.refusal.Refusal.TheVariants as refusals
-use Rattle.machine_model.specs.Meaning.{Meaning, LawfulMachine}
+use Rattle.machine_model.specs.MachineSpec.{MachineSpec, LawfulMachine}
 use Rattle.machine_model.specs.declared.entry.Entry.{Entry}
 use Rattle.wire.specs.Frames.{Frame, message_at}
 use Rattle.wire.specs.Messages.{kind_of, is_of_log}
@@ -25,7 +25,7 @@ use Rattle.raft_core.specs.Frames.{IsFrameOf, FrameCarries}
 use Rattle.raft_core.specs.Inputs.{Handed, Bytes, Own, Reads}
 use Rattle.raft_core.specs.RaftView.{RaftView, SameRaft}
 use Rattle.raft_core.specs.Refusals.{refusal, frame_refusal, unreadable, message_fault, misdirected, is_server_of, is_server_at}
-use Rattle.raft_core.specs.Steps.{Represents, Stores}
+use Rattle.raft_core.specs.Steps.{Refines, Stores}
 use Rattle.raft_core.specs.StoredParts.{stored_part}
 use Rattle.journal.specs.Events.{IoEvent, BytesCame, InputEnded, RecordAppended, JournalReplaced, BytesSent, LineReported}
 use Rattle.processes.specs.Processes.{told_by}
@@ -39,10 +39,10 @@ use Rattle.process_lives.proofs.Bounds.{InBounds, step_bounds}
 use Rattle.process_lives.proofs.Turns.{Sends, sends_nothing, sends_message, reports_line, Turned, HadCome, Joins}
 use Rattle.process_lives.proofs.Living.{joined}
 
-module _ {S C : Type 0} (m : Meaning S C) (n : ℕ) where
+module _ {S C : Type 0} (m : MachineSpec S C) (n : ℕ) where
   -- this server of the definitions is what the code's value stands for
   pub record ShowsServer (k : ℕ) (v : RaftView S C) (s : Raft C) : Type 0 where
-    pub stands : Represents m v s
+    pub stands : Refines m v s
     pub me : v.me ≡ k
     pub size : v.size ≡ n
     pub based : v.base.index ≡ s.covered
@@ -61,7 +61,7 @@ module _ {S C : Type 0} (m : Meaning S C) (n : ℕ) where
     covered = is.based;
   }
 
-  pub shows_started : (k : ℕ) (v : RaftView S C) (q : Persistent C) → (v.me ≡ k) × (v.size ≡ n) → ((s : Raft C) → Stores m (stored_part v) s → Represents m v (restarted s)) → Stores m (stored_part v) (started q)
+  pub shows_started : (k : ℕ) (v : RaftView S C) (q : Persistent C) → (v.me ≡ k) × (v.size ≡ n) → ((s : Raft C) → Stores m (stored_part v) s → Refines m v (restarted s)) → Stores m (stored_part v) (started q)
       → ShowsServer k v (started q)
   shows_started k v q place starts stored =
       let log = stored.log in
@@ -75,7 +75,7 @@ module _ {S C : Type 0} (m : Meaning S C) (n : ℕ) where
         bounds = record { covered = omega arith; commit = omega (arith, stored.covered, log.fits.index, front, size) };
       }
 
-  pub covers_same : (view : RaftView S C) (t : Raft C) → Represents m view t → InBounds t → CoversAll view → view.base.index ≡ t.covered
+  pub covers_same : (view : RaftView S C) (t : Raft C) → Refines m view t → InBounds t → CoversAll view → view.base.index ≡ t.covered
   covers_same view t r bounds all =
       let same : t.covered ≡ view.server.covered = ap (λ (x : Raft C). x.covered) r.is in
       let long = ap (λ (x : Raft C). length x.log) r.is in
@@ -86,7 +86,7 @@ module _ {S C : Type 0} (m : Meaning S C) (n : ℕ) where
         | inr most ↦ omega (arith, all.least, most, same, long, size, behind, r.fits.index, bounds.covered, bounds.commit)
       ]
 
-module _ {S C : Type 0} (m : Meaning S C) (n : ℕ) (c : Code ℕ (RaftView S C) (Stored S C)) where
+module _ {S C : Type 0} (m : MachineSpec S C) (n : ℕ) (c : Code ℕ (RaftView S C) (Stored S C)) where
   abbrev Shows : ℕ → RaftView S C → Raft C → Type 0
   Shows k v s = ShowsServer m n k v s
 
@@ -155,7 +155,7 @@ module _ {S C : Type 0} (m : Meaning S C) (n : ℕ) (c : Code ℕ (RaftView S C)
           after = s.turn.server ∷ [];
           sent = s.turn.sent;
           takes = one_more input s.turn.server s.turn.sent took_none (offered, stepped);
-          shows = record { stands = s.represents; me = t.same.0 ∙ is.me; size = t.same.1 ∙ is.size; based = covers_same m n new s.turn.server s.represents bounds covers; bounds = bounds };
+          shows = record { stands = s.refines; me = t.same.0 ∙ is.me; size = t.same.1 ∙ is.size; based = covers_same m n new s.turn.server s.refines bounds covers; bounds = bounds };
           sends = sends_frames outs t.frames s.turn.sent t.outs_are (subst (λ l. AllZip (FrameCarries m) l s.turn.sent) (sym s.sent.added) s.sent.carry);
         }
 

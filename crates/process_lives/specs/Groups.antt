@@ -7,8 +7,8 @@ use Rattle.rows.specs.Fits.{NodeSpecFits}
 use Rattle.rows.specs.declared.node.NodeSpec.{NodeSpec}
 use Rattle.rows.specs.declared.allocation.AllocId.{AllocId}
 use Rattle.rows.specs.declared.command.Command.{Command}
-use Rattle.cluster_model.specs.ClusterMachine.{cluster_meaning}
-use Rattle.cluster_model.specs.Words.{State}
+use Rattle.fsm_model.specs.ClusterMachine.{cluster_spec}
+use Rattle.fsm_model.specs.Words.{State}
 use Rattle.raft_model.specs.Rafts.{Raft, restarted}
 use Rattle.group_model.specs.Agents.{Agent, new_life}
 use Rattle.group_model.specs.Inputs.{Arrives}
@@ -20,7 +20,7 @@ use Rattle.raft_snapshot.specs.Stored.{Stored}
 use Rattle.wire.specs.Frames.{Frame, IsFrame, sized}
 use Rattle.wire.specs.Messages.{Message}
 use Rattle.raft_core.specs.RaftView.{RaftView, SameNumber}
-use Rattle.raft_core.specs.Steps.{Represents, Stores}
+use Rattle.raft_core.specs.Steps.{Refines, Stores}
 use Rattle.raft_core.specs.StoredParts.{stored_part}
 use Rattle.group_frames.specs.GroupFrames.{CarriesGroup, IsGroupFrame}
 use Rattle.journal.specs.Events.{IoEvent, BytesSent, LineReported}
@@ -40,11 +40,11 @@ use Rattle.process_lives.specs.Servers.{CoversAll}
 
 -- the item is the frame of a message
 abbrev pub IsFrameItem : List ℕ → Type 0
-IsFrameItem item = (message : Message State Command) × IsFrame cluster_meaning message item
+IsFrameItem item = (message : Message State Command) × IsFrame cluster_spec message item
 
 -- the frame carries the message
 abbrev pub CarriesFrame : List ℕ → GroupMessage → Type 0
-CarriesFrame bytes message = IsGroupFrame cluster_meaning bytes message
+CarriesFrame bytes message = IsGroupFrame cluster_spec bytes message
 
 -- what is sent is no item that is a frame
 abbrev pub IsNoFrame : List ℕ → Type 0
@@ -105,7 +105,7 @@ module _ (n : ℕ) (k : Who) {V : Type 0} (Shows : V → GroupActor → Type 0)
     pub fits : ItemFits input
     pub takes : WhatItProposesFits n k a input → GroupTakes n left k a input actor sent
     pub shows : Shows new actor
-    pub carry : AllZip (CarriesGroup cluster_meaning) frames sent
+    pub carry : AllZip (CarriesGroup cluster_spec) frames sent
 
   -- so each actor does that the old value may be, and of a frame with each message whose it is
   abbrev pub TakesHanded : V → Handed → V → List Frame → Type 0
@@ -162,7 +162,7 @@ module _ {V : Type 0} (raft : V → RaftView State Command) (Shows : V → Serve
 
   -- each part of what makes code a server's of a group of n
   pub record RunsGroupServers (n : ℕ) (c : Code ℕ V (Stored State Command)) : Type 0 where
-    pub represents : (v : V) (s : Server) → Shows v s → Represents cluster_meaning (raft v) s.raft
+    pub refines : (v : V) (s : Server) → Shows v s → Refines cluster_spec (raft v) s.raft
     pub turn : (k : ℕ) (item : List ℕ) (old new : V) (outs : List IoEvent) →
         (raft old).me ≡ k → (raft old).size ≡ n → c.Turn item old new outs →
         TurnHands n (ServerOf k) ShowsServer StaysServer item old new outs
@@ -171,10 +171,10 @@ module _ {V : Type 0} (raft : V → RaftView State Command) (Shows : V → Serve
         ((raft v).me ≡ k) × ((raft v).size ≡ n)
     -- whatever stands in its store, it begins with that, and with no desk
     pub starts : (k : ℕ) (store : Option (List ℕ)) (v : V) → c.BeginsWith k store v →
-        (s : Raft Command) → Stores cluster_meaning (stored_part (raft v)) s →
+        (s : Raft Command) → Stores cluster_spec (stored_part (raft v)) s →
         Shows v (record { raft = restarted s; desk = None })
     pub first : (k : ℕ) (v : V) → c.BeginsWith k None v →
-        Stores cluster_meaning (stored_part (raft v)) (started nothing_persistent)
+        Stores cluster_spec (stored_part (raft v)) (started nothing_persistent)
     pub reads : (k : ℕ) (file : List ℕ) (v : V) → c.BeginsWith k (Some (c.header k ++ file)) v →
         IsReadAs (c.replay k) file (c.part v)
 

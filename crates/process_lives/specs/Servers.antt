@@ -1,7 +1,7 @@
 -- Servers of the log as such processes, over any machine.
 use Rattle.std.specs.Prelude.{◌≡◌, ◌<◌, ◌≤◌, ◌⊎◌, ⊤, ℕ, Option, Some, None, List, [], ◌∷◌, ◌++◌}
 use Rattle.std.specs.Prelude.{length}
-use Rattle.machine_model.specs.Meaning.{Meaning, IsCommandOf}
+use Rattle.machine_model.specs.MachineSpec.{MachineSpec, IsCommandOf}
 use Rattle.machine_model.specs.After.{Admitted}
 use Rattle.machine_model.specs.declared.entry.Entry.{Entry}
 use Rattle.raft_model.specs.Logs.{commands}
@@ -13,7 +13,7 @@ use Rattle.wire.specs.Frames.{Frame, sized}
 use Rattle.raft_core.specs.Inputs.{Handed, Bytes, Own}
 use Rattle.raft_core.specs.RaftView.{RaftView, SameNumber, SameRaft}
 use Rattle.raft_core.specs.Refusals.{refusal}
-use Rattle.raft_core.specs.Steps.{Represents, Stores, Takes}
+use Rattle.raft_core.specs.Steps.{Refines, Stores, Takes}
 use Rattle.raft_core.specs.StoredParts.{stored_part}
 use Rattle.journal.specs.Events.{IoEvent, BytesCame, InputEnded, RecordAppended, JournalReplaced}
 use Rattle.journal.specs.Events.{BytesSent, LineReported}
@@ -55,7 +55,7 @@ server_code replay Turn BeginsWith header IsFrame = record {
   IsFrame = IsFrame;
 }
 
-module _ {S C : Type 0} (m : Meaning S C) (n : ℕ) (c : Code ℕ (RaftView S C) (Stored S C)) where
+module _ {S C : Type 0} (m : MachineSpec S C) (n : ℕ) (c : Code ℕ (RaftView S C) (Stored S C)) where
   -- what an item may be to a server: a frame, or an input of its own
   abbrev pub MayMean : List ℕ → Handed C → Type 0
   MayMean item (Bytes bytes) = (bytes ≡ item) × c.IsFrame item
@@ -70,10 +70,10 @@ module _ {S C : Type 0} (m : Meaning S C) (n : ℕ) (c : Code ℕ (RaftView S C)
   -- the server takes what the item is
   pub record TurnTakes (item : List ℕ) (old new : RaftView S C) (outs : List IoEvent) : Type 0 where
     pub handed : Handed C
-    pub means : (s : Raft C) → Represents m old s → MayMean item handed
+    pub means : (s : Raft C) → Refines m old s → MayMean item handed
     pub frames : List Frame
-    pub step : (s : Raft C) → Represents m old s → Takes m old s handed new [] frames
-    pub admitted : (s : Raft C) → Represents m old s → refusal m old.size old.me s handed ≡ None
+    pub step : (s : Raft C) → Refines m old s → Takes m old s handed new [] frames
+    pub admitted : (s : Raft C) → Refines m old s → refusal m old.size old.me s handed ≡ None
     pub same : SameNumber old new
     pub based : old.server.covered ≡ old.base.index → CoversAll new
     pub outs_are : AreFrames outs frames
@@ -93,13 +93,13 @@ module _ {S C : Type 0} (m : Meaning S C) (n : ℕ) (c : Code ℕ (RaftView S C)
         c.BeginsWith k store v → (v.me ≡ k) × (v.size ≡ n)
     pub starts : (k : ℕ) (store : Option (List ℕ)) (v : RaftView S C) →
         c.BeginsWith k store v → (s : Raft C) → Stores m (stored_part v) s →
-        Represents m v (restarted s)
+        Refines m v (restarted s)
     pub first : (k : ℕ) (v : RaftView S C) → c.BeginsWith k None v →
         Stores m (stored_part v) (started nothing_persistent)
     pub reads : (k : ℕ) (file : List ℕ) (v : RaftView S C) →
         c.BeginsWith k (Some (c.header k ++ file)) v → IsReadAs (c.replay k) file (c.part v)
 
-module _ {S C : Type 0} (m : Meaning S C) where
+module _ {S C : Type 0} (m : MachineSpec S C) where
   -- It was sent or reported by a turn of a server which, before the turn and after it, had committed
   -- a first part of this list; and its log was admitted command by command.
   pub record IsOfServer
@@ -113,8 +113,8 @@ module _ {S C : Type 0} (m : Meaning S C) where
     pub among : OccursIn outs event
     pub before : Raft C
     pub after : Raft C
-    pub shows_before : Represents m old before
-    pub shows_after : Represents m new after
+    pub shows_before : Refines m old before
+    pub shows_after : Refines m new after
     pub agrees_before : Agree before.commit before.log list
     pub agrees_after : Agree after.commit after.log list
     pub admitted_before : Admitted m (commands before.log)

@@ -3,7 +3,7 @@ ghost use Rattle.std.specs.Prelude.{ℕ, List, Option};
 ghost use Rattle.rows.specs.declared.allocation.AllocId.{AllocId};
 ghost use Rattle.rows.specs.declared.command.Command.{Command};
 ghost use Rattle.rows.specs.declared.node.NodeSpec.{NodeSpec};
-ghost use Rattle.cluster_model.specs.Words.{State};
+ghost use Rattle.fsm_model.specs.Words.{State};
 ghost use Rattle.group_model.specs.Agents.{Agent};
 ghost use Rattle.group_model.specs.Servers.{Server};
 ghost use Rattle.journal.specs.Events.{IoEvent};
@@ -38,7 +38,7 @@ pub trait ServerProcess<M: Machine> {
     ghost is_frame: { List ℕ → Type 0 };
 
     // it runs servers of the log
-    ghost runs: { (n : ℕ) → RunsServers M.meaning n
+    ghost runs: { (n : ℕ) → RunsServers M.spec n
         (server_code replay turn (begins_with n) (header n) is_frame) };
 }
 
@@ -48,7 +48,7 @@ pub trait ServerProcess<M: Machine> {
 pub fn lives_keep_one_list<M: Machine, P: ServerProcess<M>>()
     ensures { (n : ℕ) (past : Past ℕ) (now : ℕ → Process (RaftView M M.Command)) →
         Lived (server_code P.replay P.turn (P.begins_with n) (P.header n) P.is_frame) past now →
-        OneListOfLives M.meaning P.turn past }
+        OneListOfLives M.spec P.turn past }
 {}
 
 /// Code that is run as the process of a server of the group.

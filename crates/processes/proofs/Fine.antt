@@ -1,12 +1,12 @@
 -- A log's server after an item is up, or lies with what it stores; a server of the group is up.
 use Rattle.std.specs.Bool.{⊤}
 use Rattle.std.proofs.Common.{◌≡◌, ℕ, ◌⊎◌, inl, inr, true, Some, List, [], sym, ap, ◌∙◌}
-use Rattle.machine_model.specs.Meaning.{Meaning}
+use Rattle.machine_model.specs.MachineSpec.{MachineSpec}
 use Rattle.raft_model.specs.Messages.{Message}
 use Rattle.raft_model.specs.Rafts.{Raft, Down, Follower, Candidate, Leader, is_up}
 use Rattle.raft_safety.specs.Inner.SmallSteps.{Turns, walks, resets}
 use Rattle.raft_safety.proofs.Paths.{CameIn, path_up}
-use Rattle.cluster_model.specs.ClusterMachine.{cluster_meaning}
+use Rattle.fsm_model.specs.ClusterMachine.{cluster_spec}
 use Rattle.group_model.specs.Inputs as inputs
 use Rattle.group_model.specs.Servers.{Server}
 use Rattle.group_model.specs.Worlds.{event_at, LogEventFits}
@@ -18,7 +18,7 @@ Fine (GroupServer s) = is_up s.raft.mode ≡ true
 Fine (GroupClient x) = ⊤
 
 -- the log's part
-pub raft_fine : {S C : Type 0} (m : Meaning S C) (n i : ℕ) (sent : List (Message C)) (s t : Raft C) (out : List (Message C)) → Turns m n i sent s t out → (is_up t.mode ≡ true) ⊎ (t ≡ stopped (persistent_of t))
+pub raft_fine : {S C : Type 0} (m : MachineSpec S C) (n i : ℕ) (sent : List (Message C)) (s t : Raft C) (out : List (Message C)) → Turns m n i sent s t out → (is_up t.mode ≡ true) ⊎ (t ≡ stopped (persistent_of t))
 raft_fine m n i sent s t out (walks up p) = inl (path_up m n i sent t out s up p)
 raft_fine m n i sent s t out (resets Down h up e o) = inr (e ∙ sym (ap (λ x. stopped (persistent_of x)) e))
 raft_fine m n i sent s t out (resets Follower h up e o) = inl (ap (λ (x : Raft _). is_up x.mode) e)
@@ -32,9 +32,9 @@ module _ (n i : ℕ) (s : Server) where
   IsLive inputs.Restart = ⊥
   IsLive _ = ⊤
 
-  pub asked_came : (ask : inputs.Ask) → LogEventFits (event_at i (Some ask)) → CameIn cluster_meaning [] i (inputs.input_of ask)
+  pub asked_came : (ask : inputs.Ask) → LogEventFits (event_at i (Some ask)) → CameIn cluster_spec [] i (inputs.input_of ask)
   asked_came inputs.AskTimeout fits = tt
-  asked_came inputs.AskBeat fits = tt
+  asked_came inputs.AskHeartbeat fits = tt
   asked_came (inputs.AskPropose command) fits = fits
   asked_came inputs.AskCompact fits = tt
   asked_came inputs.AskCrash fits = tt

@@ -7,7 +7,7 @@ use Rattle.rows.specs.declared.command.Command.{Command}
 use Rattle.raft_model.specs.Messages.{Message}
 use Rattle.raft_model.specs.Rafts.{is_up, silent, crashed}
 use Rattle.raft_model.specs.Steps as raft_steps
-use Rattle.cluster_model.specs.ClusterMachine.{cluster_meaning}
+use Rattle.fsm_model.specs.ClusterMachine.{cluster_spec}
 use Rattle.raft_safety.proofs.Places.{get_set-same, get-within, set-length}
 use Rattle.group_model.specs.Messages.{GroupMessage, OfLog, Service, ServiceMessage, BetweenServers, ToServer, ToClient}
 use Rattle.group_model.specs.Inputs as inputs
@@ -166,7 +166,7 @@ module _ (n : ℕ) (nodes : List NodeSpec) where
     server_falls i s here up =
         let turn : servers.ServerTurn = record { server = record { raft = crashed s.raft; desk = None }; sent = []; work = [] } in
         let decided : servers.decides n i s inputs.Crash ≡ Ok (inputs.asks inputs.AskCrash s.desk) = rw up refl in
-        let stepped : raft_steps.step cluster_meaning n i s.raft raft_steps.Crash ≡ Ok (silent (crashed s.raft)) = rw up refl in
+        let stepped : raft_steps.step cluster_spec n i s.raft raft_steps.Crash ≡ Ok (silent (crashed s.raft)) = rw up refl in
         server_more i s (record { raft = crashed s.raft; desk = None }) [] (AtServer i inputs.Crash) here (fits_is i s inputs.Crash here (rw up tt)) (takes_is i s inputs.Crash turn here (ap (servers.done n i s) decided ∙ ap (servers.logged s (inputs.asks inputs.AskCrash s.desk)) stepped))
 
     client_falls : (c : ℕ) (x : Agent) (life : Option Life) → x.life ≡ life → client_at w.clients c ≡ Some x →

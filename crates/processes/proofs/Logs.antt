@@ -1,7 +1,7 @@
 -- The log's world carries its servers' processes.
 use Rattle.std.proofs.Common.{◌≡◌, ◌≢◌, ℕ, ◌-◌, zero, suc, ◌⊎◌, ◌<◌, inl, inr, true, Some, Ok, List, [], ◌∷◌, ◌++◌, length, replicate, refl, sym, ap, ◌∙◌, subst, arith, slice_get, slice_set}
 use Rattle.std.proofs.lemmas.Bool.Decides.{eqb_tells}
-use Rattle.machine_model.specs.Meaning.{Meaning, LawfulMachine}
+use Rattle.machine_model.specs.MachineSpec.{MachineSpec, LawfulMachine}
 use Rattle.raft_model.specs.Messages.{Message}
 use Rattle.raft_model.specs.Rafts.{Raft, Mode, Down, Follower, Candidate, Leader, newcomer, is_up, is_leader, crashed}
 use Rattle.raft_model.specs.Steps.{Input, Arrives, Timeout, Beat, Propose, Compact, Crash, Restart, step}
@@ -30,7 +30,7 @@ get_set-other (z ∷ zs) zero x (suc j) h = refl
 get_set-other (z ∷ zs) (suc i) x zero h = refl
 get_set-other (z ∷ zs) (suc i) x (suc j) h = get_set-other zs i x j (λ e. h (ap suc e))
 
-module _ {S C : Type 0} (m : Meaning S C) (n : ℕ) where
+module _ {S C : Type 0} (m : MachineSpec S C) (n : ℕ) where
   abbrev UpOrStopped : Raft C → Type 0
   UpOrStopped s = (is_up s.mode ≡ true) ⊎ (s ≡ stopped (persistent_of s))
 
@@ -127,7 +127,7 @@ leads_server past w k i s a Follower e h = absurd (cc)
 leads_server past w k i s a (Candidate votes) e h = absurd (cc)
 leads_server past w k i s a (Leader next match) e h = refl
 
-module _ {S C : Type 0} (m : Meaning S C) (n : ℕ) (before : List (System (log_actors m n))) (g : System (log_actors m n)) (c : Execution (log_actors m n) before g) where
+module _ {S C : Type 0} (m : MachineSpec S C) (n : ℕ) (before : List (System (log_actors m n))) (g : System (log_actors m n)) (c : Execution (log_actors m n) before g) where
   pub log_world : RefinesWorld (log_actors m n) (log_abstraction m n) stopped before g
   log_world = refines (log_actors m n) (log_abstraction m n) stopped (UpOrStopped m n) (log_is_simulated m n) before g c
 

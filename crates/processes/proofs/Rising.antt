@@ -18,30 +18,30 @@ use Rattle.rows.specs.declared.worker.WorkerRequest.TheVariants.{Take, Submit, F
 use Rattle.rows.specs.declared.worker.ClientRequestKind.{ClientRequestKind}
 use Rattle.rows.specs.declared.worker.ClientRequestKind.TheVariants as kinds
 use Rattle.rows.specs.Changes.{change_of}
-use Rattle.machine_model.specs.Meaning.{Meaning}
+use Rattle.machine_model.specs.MachineSpec.{MachineSpec}
 use Rattle.raft_model.specs.Logs.{MAX}
 use Rattle.raft_model.specs.Quorums.{is_quorum, marked}
 use Rattle.raft_model.specs.Messages.{Body, VoteRequest, VoteReply, Append, AppendReply, Install, InstallReply}
-use Rattle.raft_model.specs.Rafts.{Raft, RaftTurn, Mode, Down, Follower, Candidate, Leader, is_up, is_leader, silent, met, grants, granted, won, with_votes, counted, following, is_held, match_raised, advanced_in, hears_ok, hears_refusal, extended}
+use Rattle.raft_model.specs.Rafts.{Raft, RaftTurn, Mode, Down, Follower, Candidate, Leader, is_up, is_leader, silent, term_observed, grants, granted, won, with_votes, counted, following, is_held, match_raised, advanced_in, after_append_ok, after_append_refusal, extended}
 use Rattle.raft_model.specs.Steps as raft_steps
 use Rattle.raft_model.specs.Steps.{admission_refusal}
 use Rattle.raft_model.proofs.Cases.{bool_cases, same_ok}
-use Rattle.cluster_model.specs.Words.{State}
-use Rattle.cluster_model.specs.Words.{node_of}
-use Rattle.cluster_model.specs.ClusterMachine.{cluster_meaning}
+use Rattle.fsm_model.specs.Words.{State}
+use Rattle.fsm_model.specs.Words.{node_of}
+use Rattle.fsm_model.specs.ClusterMachine.{cluster_spec}
 use Rattle.group_model.specs.Messages.{GroupMessage, ServiceMessage, BetweenServers, ToServer, ToClient, WorkerMessage, Asks, Answers, ClientRequest, Register, Heartbeat, Pull, ReportStates}
 use Rattle.group_model.specs.Order.{Picked, pick}
 use Rattle.group_model.specs.Brokers.{Task, Given, Nothing, UsedUp, Gives, deliver, outstanding}
-use Rattle.group_model.specs.Expiry.{BeatCount, beat_count_of}
+use Rattle.group_model.specs.Expiry.{HeartbeatCount, heartbeat_count_of}
 use Rattle.group_model.specs.Acceptance.{Accepted, accept, keeps_some}
 use Rattle.group_model.specs.Drains.{is_done, next_moves_of}
-use Rattle.group_model.specs.Desks.{Desk, QueuedPlan, applied_state, whole_state}
+use Rattle.group_model.specs.Desks.{Desk, QueuedPlan, applied_state, projected_state}
 use Rattle.group_model.specs.Inputs as inputs
 use Rattle.group_model.specs.Inputs.{Act, Ask}
 use Rattle.group_model.specs.Plans.{plan_command, turn_of, judged, after_accept, proposes_plan, submitted}
 use Rattle.group_model.specs.DeskTurns.{expiry_command, expire_of, migrates, drains_by, drain_turn_of, free_turn_of, reap_of}
 use Rattle.group_model.specs.WorkerRequests.{takes_given, submits_of, finishes_by, finishes_of, nacks_of, serves_request, serves_worker}
-use Rattle.group_model.specs.ClientRequests.{is_taken_already, proposes_for, writes, beats_at, serves_client}
+use Rattle.group_model.specs.ClientRequests.{is_taken_already, proposes_for, writes, heartbeats_at, serves_client}
 use Rattle.group_model.specs.Servers as servers
 use Rattle.group_model.specs.Servers.{Server, open_desk, at_desk, takes_message}
 use Rattle.processes.specs.Groups as groups
@@ -58,7 +58,7 @@ module _ {C : Type 0} where
   either true x y p q = p
   either false x y p q = q
 
-  met_up : (term : ℕ) (s : Raft C) → IsUp s → IsUp (met term s)
+  met_up : (term : ℕ) (s : Raft C) → IsUp s → IsUp (term_observed term s)
   met_up term s up = either (nat_lt s.term term) (record s { term = term; vote = None; known = None; mode = Follower }) s refl up
 
   granted_up : (s : Raft C) (from : ℕ) (b : Bool) → IsUp s → IsUp (granted s from b)
@@ -80,14 +80,14 @@ module _ {C : Type 0} where
   advanced_up n me s (Candidate votes) up = up
   advanced_up n me s (Leader next match) up = up
 
-  hears_up : (n me : ℕ) (s : Raft C) (j at : ℕ) (mode : Mode) → IsUp s → IsUp (hears_ok n me s j at mode)
+  hears_up : (n me : ℕ) (s : Raft C) (j at : ℕ) (mode : Mode) → IsUp s → IsUp (after_append_ok n me s j at mode)
   hears_up n me s j at Down up = up
   hears_up n me s j at Follower up = up
   hears_up n me s j at (Candidate votes) up = up
   hears_up n me s j at (Leader next match) up =
       advanced_up n me (match_raised s j at next match) (match_raised s j at next match).mode (elim (bool_cases (nat_le at (length s.log))) [ inl b ↦ rw b refl | inr b ↦ rw b up ])
 
-  refused_up : (n me : ℕ) (s : Raft C) (j at : ℕ) (mode : Mode) → IsUp s → IsUp (hears_refusal n me s j at mode)
+  refused_up : (n me : ℕ) (s : Raft C) (j at : ℕ) (mode : Mode) → IsUp s → IsUp (after_append_refusal n me s j at mode)
   refused_up n me s j at Down up = up
   refused_up n me s j at Follower up = up
   refused_up n me s j at (Candidate votes) up = up
@@ -104,8 +104,8 @@ module _ {C : Type 0} where
       | inr d ↦ rw d (elim (bool_cases (is_held (following s from) prev prev_term)) [ inl e ↦ rw e refl | inr e ↦ rw e refl ])
     ])
   ]
-  receives_up noop n me s from term (AppendReply asked true at) up = either (asked == s.term) (hears_ok n me s from at s.mode) s (hears_up n me s from at s.mode up) up
-  receives_up noop n me s from term (AppendReply asked false at) up = either (asked == s.term) (hears_refusal n me s from at s.mode) s (refused_up n me s from at s.mode up) up
+  receives_up noop n me s from term (AppendReply asked true at) up = either (asked == s.term) (after_append_ok n me s from at s.mode) s (hears_up n me s from at s.mode up) up
+  receives_up noop n me s from term (AppendReply asked false at) up = either (asked == s.term) (after_append_refusal n me s from at s.mode) s (refused_up n me s from at s.mode up) up
   receives_up noop n me s from term (Install P) up = elim (bool_cases (nat_lt term s.term)) [
     | inl b ↦ rw b up
     | inr b ↦ rw b (elim (bool_cases (is_leader s.mode)) [
@@ -113,14 +113,14 @@ module _ {C : Type 0} where
       | inr d ↦ rw d (elim (bool_cases (nat_le (length P) s.commit)) [ inl e ↦ rw e refl | inr e ↦ rw e refl ])
     ])
   ]
-  receives_up noop n me s from term (InstallReply asked at) up = either (asked == s.term) (hears_ok n me s from at s.mode) s (hears_up n me s from at s.mode up) up
+  receives_up noop n me s from term (InstallReply asked at) up = either (asked == s.term) (after_append_ok n me s from at s.mode) s (hears_up n me s from at s.mode up) up
 
 -- what a server takes whose process goes on
 abbrev IsTaken : {C : Type 0} → raft_steps.Input C → Type 0
 IsTaken raft_steps.Crash = ⊥
 IsTaken _ = ⊤
 
-module _ {S C : Type 0} (m : Meaning S C) (n i : ℕ) (s : Raft C) (up : IsUp s) where
+module _ {S C : Type 0} (m : MachineSpec S C) (n i : ℕ) (s : Raft C) (up : IsUp s) where
   turn_is : (u t : RaftTurn C) → let r : Result (RaftTurn C) Refusal = Ok u in r ≡ Ok t → IsUp u.server → IsUp t.server
   turn_is u t h is = subst (λ (x : RaftTurn C). IsUp x.server) (same_ok u t h) is
 
@@ -145,7 +145,7 @@ module _ {S C : Type 0} (m : Meaning S C) (n i : ℕ) (s : Raft C) (up : IsUp s)
 
   acts_up : (input : raft_steps.Input C) (t : RaftTurn C) → IsTaken input → raft_steps.acts m n i s input ≡ Ok t → IsUp t.server
   acts_up (raft_steps.Arrives message) t live h = elim (bool_cases (nat_lt message.from n)) [
-    | inl b ↦ turn_is _ t (rw b at h) (receives_up m.noop n i (met message.term s) message.from message.term message.body (met_up message.term s up))
+    | inl b ↦ turn_is _ t (rw b at h) (receives_up m.noop n i (term_observed message.term s) message.from message.term message.body (met_up message.term s up))
     | inr b ↦ absurd (let no = rw b at h in cc)
   ]
   acts_up raft_steps.Timeout t live h = timeout_up t h
@@ -192,7 +192,7 @@ module _ (me : ℕ) (s : Raft Command) where
 
   calm_finish : (from : ℕ) (id : EvalId) (token : Token) (f : EvalOutcome) (o : Desk) (r : Result ℕ Refusal) → IsCalm (finishes_of me s from id token f o r).ask
   calm_finish from id token f o (Err e) = tt
-  calm_finish from id token f o (Ok wait) = calm_finish_by from id token f o (admission_refusal cluster_meaning s (commands.EvalStatus id (change_of f)))
+  calm_finish from id token f o (Ok wait) = calm_finish_by from id token f o (admission_refusal cluster_spec s (commands.EvalStatus id (change_of f)))
 
   calm_nack : (from : ℕ) (id : EvalId) (token : Token) (o : Desk) (r : Result ℕ Refusal) → IsCalm (nacks_of me from id token o r).ask
   calm_nack from id token o (Err e) = tt
@@ -218,20 +218,20 @@ module _ (me : ℕ) (s : Raft Command) where
     calm_proposes d None = tt
 
     calm_writes : (d : Option Desk) → IsCalm (writes me s c kind command d).ask
-    calm_writes d = calm_cond (not (is_leader s.mode)) _ _ tt (calm_cond (is_taken_already (whole_state s) command) _ _ tt (calm_proposes d (admission_refusal cluster_meaning s command)))
+    calm_writes d = calm_cond (not (is_leader s.mode)) _ _ tt (calm_cond (is_taken_already (projected_state s) command) _ _ tt (calm_proposes d (admission_refusal cluster_spec s command)))
 
-  calm_beats : (c : ℕ) (o : Desk) (p : Option BeatCount) → IsCalm (beats_at me c o p).ask
+  calm_beats : (c : ℕ) (o : Desk) (p : Option HeartbeatCount) → IsCalm (heartbeats_at me c o p).ask
   calm_beats c o None = tt
   calm_beats c o (Some p) = tt
 
   calm_client : (c : ℕ) (r : Result Desk Refusal) (d : Option Desk) (request : ClientRequest) → IsCalm (serves_client me s c r d request).ask
   calm_client c r d (Register class size) = calm_writes c kinds.Register (commands.NodePut (record { number = c; class = class; size = size })) d
   calm_client c (Err e) d Heartbeat = tt
-  calm_client c (Ok o) d Heartbeat = calm_beats c o (beat_count_of c o.beat_counts)
+  calm_client c (Ok o) d Heartbeat = calm_beats c o (heartbeat_count_of c o.heartbeat_counts)
   calm_client c r d Pull = tt
   calm_client c r d (ReportStates items) = calm_writes c kinds.Report (commands.Report c items) d
 
-  calm_expires : (d : Desk) (command : Command) (beats : ℕ) (p : Option BeatCount) → CalmResult (expire_of d command beats p)
+  calm_expires : (d : Desk) (command : Command) (beats : ℕ) (p : Option HeartbeatCount) → CalmResult (expire_of d command beats p)
   calm_expires d command beats None = tt
   calm_expires d command beats (Some q) = calm_result _ (Ok _) (Err refusals.StaleExpiry) tt tt
 
@@ -261,11 +261,11 @@ module _ (me : ℕ) (s : Raft Command) where
 
   calm_accept : (d : Desk) (w : QueuedPlan) (r : Result Accepted Refusal) → IsCalm (after_accept me s d w r).ask
   calm_accept d w (Err e) = tt
-  calm_accept d w (Ok a) = calm_cond (keeps_some a) _ _ (calm_plan d w a (admission_refusal cluster_meaning s (plan_command w.plan a))) tt
+  calm_accept d w (Ok a) = calm_cond (keeps_some a) _ _ (calm_plan d w a (admission_refusal cluster_spec s (plan_command w.plan a))) tt
 
   calm_judged : (d : Desk) (w : QueuedPlan) (r : Result ℕ Refusal) → IsCalm (judged me s d w r).ask
   calm_judged d w (Err e) = tt
-  calm_judged d w (Ok wait) = calm_accept d w (accept (whole_state s) w.plan wait)
+  calm_judged d w (Ok wait) = calm_accept d w (accept (projected_state s) w.plan wait)
 
   calm_turn : (d : Desk) (p : Option (Picked QueuedPlan)) → IsCalm (turn_of me s d p).ask
   calm_turn d None = tt
@@ -292,8 +292,8 @@ module _ (n me : ℕ) (s : Server) where
   calm_acts (inputs.NackAt to eval token) live = calm_result (nat_lt to n) _ _ tt tt
   calm_acts inputs.PlanTurn live = calm_at (open_desk s) _ (λ d. calm_turn me s.raft d (pick (λ (w : QueuedPlan). w.priority) d.plans))
   calm_acts (inputs.Lapse eval) live = calm_at (open_desk s) _ (λ d. calm_result _ (Ok _) (Err refusals.NotOutstanding) tt tt)
-  calm_acts (inputs.Expire node beats) live = calm_at (open_desk s) _ (λ d. calm_expires me s.raft d (expiry_command (applied_state s.raft) node) beats (beat_count_of node d.beat_counts))
-  calm_acts (inputs.DrainTurn node) live = calm_at (open_desk s) _ (λ d. calm_drains me s.raft d (whole_state s.raft) (node_of node (whole_state s.raft)))
+  calm_acts (inputs.Expire node beats) live = calm_at (open_desk s) _ (λ d. calm_expires me s.raft d (expiry_command (applied_state s.raft) node) beats (heartbeat_count_of node d.heartbeat_counts))
+  calm_acts (inputs.DrainTurn node) live = calm_at (open_desk s) _ (λ d. calm_drains me s.raft d (projected_state s.raft) (node_of node (projected_state s.raft)))
   calm_acts inputs.FreeTurn live = calm_at (open_desk s) _ (λ d. calm_frees me s.raft d _)
   calm_acts inputs.Reap live = calm_at (open_desk s) _ (λ d. calm_reaps me s.raft d _)
   calm_acts inputs.Compact live = tt
@@ -303,14 +303,14 @@ module _ (n me : ℕ) (s : Server) where
 -- ---- the group's server
 
 module _ (n i : ℕ) (s : Server) (up : IsUp s.raft) where
-  logged_up : (act : Act) (input : raft_steps.Input Command) → IsTaken input → (r : Result (RaftTurn Command) Refusal) (turn : servers.ServerTurn) → raft_steps.step cluster_meaning n i s.raft input ≡ r → servers.logged s act r ≡ Ok turn → IsUp turn.server.raft
+  logged_up : (act : Act) (input : raft_steps.Input Command) → IsTaken input → (r : Result (RaftTurn Command) Refusal) (turn : servers.ServerTurn) → raft_steps.step cluster_spec n i s.raft input ≡ r → servers.logged s act r ≡ Ok turn → IsUp turn.server.raft
   logged_up act input live (Err cause) turn is h = absurd (cc)
   logged_up act input live (Ok t) turn is h =
-      subst (λ (x : servers.ServerTurn). IsUp x.server.raft) (same_ok _ _ h) (step_up cluster_meaning n i s.raft up input t live is)
+      subst (λ (x : servers.ServerTurn). IsUp x.server.raft) (same_ok _ _ h) (step_up cluster_spec n i s.raft up input t live is)
 
   asks_up : (act : Act) (ask : Option Ask) (turn : servers.ServerTurn) → IsCalm ask → servers.asks_log n i s act ask ≡ Ok turn → IsUp turn.server.raft
   asks_up act None turn calm h = subst (λ (x : servers.ServerTurn). IsUp x.server.raft) (same_ok _ _ h) up
-  asks_up act (Some ask) turn calm h = logged_up act (inputs.input_of ask) calm (raft_steps.step cluster_meaning n i s.raft (inputs.input_of ask)) turn refl h
+  asks_up act (Some ask) turn calm h = logged_up act (inputs.input_of ask) calm (raft_steps.step cluster_spec n i s.raft (inputs.input_of ask)) turn refl h
 
   done_up : (r : Result Act Refusal) (turn : servers.ServerTurn) → CalmResult r → servers.done n i s r ≡ Ok turn → IsUp turn.server.raft
   done_up (Err cause) turn calm h = absurd (cc)
@@ -325,7 +325,7 @@ takes_up n i s t left a b item out up (groups.log_comes j old message turn among
     let same : s ≡ old = cc is in
     let new : turn.server ≡ t = cc now in
     let old_up = subst (λ (x : Server). IsUp x.raft) same up in
-    subst (λ (x : Server). IsUp x.raft) new (logged_up n i old old_up (inputs.rests old.desk) (raft_steps.Arrives message) tt (raft_steps.step cluster_meaning n i old.raft (raft_steps.Arrives message)) turn refl h)
+    subst (λ (x : Server). IsUp x.raft) new (logged_up n i old old_up (inputs.rests old.desk) (raft_steps.Arrives message) tt (raft_steps.step cluster_spec n i old.raft (raft_steps.Arrives message)) turn refl h)
 takes_up n i s t left a b item out up (groups.server_comes j old message turn among to fits h) is now =
     let same : s ≡ old = cc is in
     let new : turn.server ≡ t = cc now in

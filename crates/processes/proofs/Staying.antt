@@ -13,7 +13,7 @@ use Rattle.raft_safety.proofs.Logs.{agree_sym, agree_trans, agree_less}
 use Rattle.raft_safety.proofs.Paths.{CameIn, step_path}
 use Rattle.raft_safety.proofs.Commits.{turn_commit}
 use Rattle.raft_safety.proofs.Places.{get-more, get-where, get-last, get-one, push_length}
-use Rattle.cluster_model.specs.ClusterMachine.{cluster_meaning}
+use Rattle.fsm_model.specs.ClusterMachine.{cluster_spec}
 use Rattle.group_model.specs.Messages.{GroupMessage}
 use Rattle.group_model.specs.Inputs as inputs
 use Rattle.group_model.specs.Servers as servers
@@ -38,18 +38,18 @@ module _ (n i : ℕ) (s t : Server) (up : is_up s.raft.mode ≡ true) (still : i
   same_commit : (u : Server) → u.raft ≡ s.raft → u ≡ t → s.raft.commit ≤ t.raft.commit
   same_commit u same is = subst (λ (x : Server). s.raft.commit ≤ x.raft.commit) is (rw same (omega arith))
 
-  logged_commit : (act : inputs.Act) (input : raft_steps.Input Command) (sent : List (Message Command)) → CameIn cluster_meaning sent i input → (r : Result (RaftTurn Command) Refusal) (turn : servers.ServerTurn) →
-      raft_steps.step cluster_meaning n i s.raft input ≡ r → servers.logged s act r ≡ Ok turn → turn.server ≡ t → s.raft.commit ≤ t.raft.commit
+  logged_commit : (act : inputs.Act) (input : raft_steps.Input Command) (sent : List (Message Command)) → CameIn cluster_spec sent i input → (r : Result (RaftTurn Command) Refusal) (turn : servers.ServerTurn) →
+      raft_steps.step cluster_spec n i s.raft input ≡ r → servers.logged s act r ≡ Ok turn → turn.server ≡ t → s.raft.commit ≤ t.raft.commit
   logged_commit act input sent came_in (Err cause) turn is h now = absurd (cc)
   logged_commit act input sent came_in (Ok u) turn is h now =
       let same : u.server ≡ t.raft = ap (λ (x : servers.ServerTurn). x.server.raft) (same_ok _ _ h) ∙ ap (λ (x : Server). x.raft) now in
       subst (λ x. s.raft.commit ≤ x.commit) same
-      (turn_commit cluster_meaning n i sent s.raft u.server u.sent (step_path cluster_meaning n i sent s.raft input u came_in is) up (subst (λ x. is_up x.mode ≡ true) (sym same) still))
+      (turn_commit cluster_spec n i sent s.raft u.server u.sent (step_path cluster_spec n i sent s.raft input u came_in is) up (subst (λ x. is_up x.mode ≡ true) (sym same) still))
 
   asks_commit : (act : inputs.Act) (ask : Option inputs.Ask) (turn : servers.ServerTurn) → LogEventFits (event_at i ask) → servers.asks_log n i s act ask ≡ Ok turn → turn.server ≡ t → s.raft.commit ≤ t.raft.commit
   asks_commit act None turn fits h now = same_commit turn.server (sym (ap (λ (x : servers.ServerTurn). x.server.raft) (same_ok _ _ h))) now
   asks_commit act (Some ask) turn fits h now =
-      logged_commit act (inputs.input_of ask) [] (asked_came n i s ask fits) (raft_steps.step cluster_meaning n i s.raft (inputs.input_of ask)) turn refl h now
+      logged_commit act (inputs.input_of ask) [] (asked_came n i s ask fits) (raft_steps.step cluster_spec n i s.raft (inputs.input_of ask)) turn refl h now
 
   done_commit : (r : Result inputs.Act Refusal) (turn : servers.ServerTurn) → LogEventFits (event_at i (log_request r)) → servers.done n i s r ≡ Ok turn → turn.server ≡ t → s.raft.commit ≤ t.raft.commit
   done_commit (Err cause) turn fits h now = absurd (cc)
@@ -58,7 +58,7 @@ module _ (n i : ℕ) (s t : Server) (up : is_up s.raft.mode ≡ true) (still : i
   takes_commit : (left : List GroupMessage) (a b : GroupActor) (item : groups.Item) (out : List GroupMessage) → groups.GroupTakes n left (ServerOf i) a item b out → a ≡ GroupServer s → b ≡ GroupServer t → s.raft.commit ≤ t.raft.commit
   takes_commit left a b item out (groups.log_comes j old message turn among to h) is now =
       let same : old ≡ s = cc is in
-      logged_commit (inputs.rests s.desk) (raft_steps.Arrives message) (message ∷ []) ((0, refl), to) (raft_steps.step cluster_meaning n i s.raft (raft_steps.Arrives message)) turn refl
+      logged_commit (inputs.rests s.desk) (raft_steps.Arrives message) (message ∷ []) ((0, refl), to) (raft_steps.step cluster_spec n i s.raft (raft_steps.Arrives message)) turn refl
       (subst (λ x. servers.takes_log_message n i x message ≡ Ok turn) same h) (cc now)
   takes_commit left a b item out (groups.server_comes j old message turn among to fits h) is now =
       let same : old ≡ s = cc is in

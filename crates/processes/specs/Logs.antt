@@ -1,7 +1,7 @@
 -- Servers of the log, of any machine, as actors that are processes.
 use Rattle.std.specs.Prelude.{◌≡◌, ⊤, ℕ, ◌-◌, ◌<◌, ◌≤◌, true, Option, Some, None, Ok, List, []}
 use Rattle.std.specs.Prelude.{slice_get}
-use Rattle.machine_model.specs.Meaning.{Meaning, IsCommandOf}
+use Rattle.machine_model.specs.MachineSpec.{MachineSpec, IsCommandOf}
 use Rattle.machine_model.specs.declared.entry.Entry.{Entry}
 use Rattle.raft_model.specs.Logs.{term_at}
 use Rattle.raft_model.specs.Messages.{Message}
@@ -49,7 +49,7 @@ stopped p = record {
   mode = Down;
 }
 
-module _ {S C : Type 0} (m : Meaning S C) (n : ℕ) where
+module _ {S C : Type 0} (m : MachineSpec S C) (n : ℕ) where
   -- What a server may take: an input of its own, or a message to it that had left one. It takes no
   -- crash and no restart: its process dies, and starts.
   abbrev pub IsOffered : List (Message C) → ℕ → Input C → Type 0
@@ -112,7 +112,7 @@ module _ {S C : Type 0} (m : Meaning S C) (n : ℕ) where
         slice_get list (index - 1) ≡ Some (entry_in_term t.actor.log index command)
 
 -- of each execution of n servers of the log
-abbrev pub EachLogExecution : {S C : Type 0} (m : Meaning S C) →
+abbrev pub EachLogExecution : {S C : Type 0} (m : MachineSpec S C) →
     ((n : ℕ) → List (System (log_actors m n)) → System (log_actors m n) → Type 0) → Type 0
 EachLogExecution m Claim = (n : ℕ) (past : List (System (log_actors m n)))
     (g : System (log_actors m n)) → Execution (log_actors m n) past g → Claim n past g

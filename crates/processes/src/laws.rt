@@ -14,13 +14,13 @@ use machine_model::Machine;
 /// Each execution of the log's servers as processes, killed at any moment, refines the log's world,
 /// whatever the machine. (Raft, extended version 2014, figure 2: what is persistent.)
 pub fn processes_refine_the_log<M: Machine>()
-    ensures { EachLogExecution M.meaning (λ n past g.
-        RefinesWorld (log_actors M.meaning n) (log_abstraction M.meaning n) stopped past g) }
+    ensures { EachLogExecution M.spec (λ n past g.
+        RefinesWorld (log_actors M.spec n) (log_abstraction M.spec n) stopped past g) }
 {}
 
 /// What they may have told is of one list, with one leader a term.
 pub fn processes_keep_one_list<M: Machine>()
-    ensures { EachLogExecution M.meaning (λ n past g. KeepsOneList M.meaning n g) }
+    ensures { EachLogExecution M.spec (λ n past g. KeepsOneList M.spec n g) }
 {}
 
 /// Each execution of the group's servers and clients as processes, killed at any moment, refines

@@ -2,41 +2,41 @@
 use Rattle.std.proofs.Common.{◌≡◌, ℕ, ◌≤◌, Bool, true, false, List, [], ◌++◌, length, take, drop, Option, Some, None, IfSome, sym, ap, ◌∙◌, arith, length-append, length-drop, length-take-le}
 use Rattle.std.proofs.Math.Seq.{drop-append_seam}
 use Rattle.std.proofs.lemmas.List.{take-append-drop}
-use Rattle.machine_model.specs.Meaning.{Meaning}
+use Rattle.machine_model.specs.MachineSpec.{MachineSpec}
 use Rattle.machine_model.specs.After.{after_from}
 use Rattle.machine_model.specs.declared.entry.Entry.{Entry}
 use Rattle.raft_model.specs.Logs.{term_at, commands}
 use Rattle.raft_model.specs.Rafts.{Raft, Mode, is_up}
-use Rattle.raft_snapshot.specs.Bases.{Base, blank, state_from}
-use Rattle.raft_snapshot.specs.Shown.{IsShown, compacted_base, compacted_shown}
+use Rattle.raft_snapshot.specs.Bases.{Base, noop_prefix, state_from}
+use Rattle.raft_snapshot.specs.Compacted.{IsCompacted, compacted_base, compacted_further}
 use Rattle.raft_snapshot.proofs.Applies.{state_from-append}
-use Rattle.raft_snapshot.proofs.Blanks.{blank-length}
+use Rattle.raft_snapshot.proofs.Blanks.{noop_prefix-length}
 use Rattle.raft_core.specs.declared.role.Role.{Role}
 use Rattle.raft_core.specs.declared.role.Role.TheVariants as roles
-use Rattle.raft_core.specs.RaftView.{RaftView, IsUpToCommit, IsAhead, HasElectionIndex, IsRaft, while_up}
+use Rattle.raft_core.specs.RaftView.{RaftView, IsUpToCommit, IsProjected, HasElectionIndex, RaftInvariant, while_up}
 use Rattle.raft_core.specs.Inner.Moves.{Compacts}
 use Rattle.raft_core.proofs.Lives.{state_none}
 
-module _ {S C : Type 0} (m : Meaning S C) (base : Base S) (shown : Raft C) where
+module _ {S C : Type 0} (m : MachineSpec S C) (base : Base S) (shown : Raft C) where
   -- where nothing is newly applied, it is as it was
-  pub same_base : IsShown base shown → shown.commit ≡ base.index → compacted_base m base shown ≡ base
+  pub same_base : IsCompacted base shown → shown.commit ≡ base.index → compacted_base m base shown ≡ base
   same_base is same =
       ap (λ (k : ℕ). let b : Base S = record { index = k; term = term_at shown.log k; state = state_from m base (take k shown.log) } in b) same
       ∙ ap (λ (t : ℕ). let b : Base S = record { index = base.index; term = t; state = state_from m base (take base.index shown.log) } in b) (sym is.term)
       ∙ ap (λ (x : S). let b : Base S = record { index = base.index; term = base.term; state = x } in b) (state_none m base shown.log)
 
-  pub same_shown : IsShown base shown → shown.commit ≡ base.index → shown.log ≡ blank m base.index base.term ++ drop base.index shown.log → compacted_shown m shown ≡ shown
+  pub same_shown : IsCompacted base shown → shown.commit ≡ base.index → shown.log ≡ noop_prefix m base.index base.term ++ drop base.index shown.log → compacted_further m shown ≡ shown
   same_shown is same blanks =
-      ap (λ (k : ℕ). record shown { covered = k; log = blank m k (term_at shown.log k) ++ drop k shown.log }) same
-      ∙ ap (λ (t : ℕ). record shown { covered = base.index; log = blank m base.index t ++ drop base.index shown.log }) (sym is.term)
+      ap (λ (k : ℕ). record shown { covered = k; log = noop_prefix m k (term_at shown.log k) ++ drop k shown.log }) same
+      ∙ ap (λ (t : ℕ). record shown { covered = base.index; log = noop_prefix m base.index t ++ drop base.index shown.log }) (sym is.term)
       ∙ ap (λ (l : List (Entry C)). record shown { covered = base.index; log = l }) (sym blanks)
       ∙ ap (λ (k : ℕ). record shown { covered = k }) (sym is.count)
 
-pub compacted_already : {S C : Type 0} (m : Meaning S C) (old : RaftView S C) (base : Base S) (machine : Option S) (me size term : ℕ) (vote : Option ℕ) (log : List (Entry C)) (commit : ℕ) (known : Option ℕ) (mode : Mode) (held : Bool) → record { me = me; size = size; base = base; server = while_up machine (record { term = term; vote = vote; log = log; covered = base.index; commit = commit; known = known; mode = mode }); projected = held } ≡ old → is_up old.server.mode ≡ true → IsShown old.base old.server → commit ≡ base.index → log ≡ blank m base.index base.term ++ drop base.index log → Compacts m old old
+pub compacted_already : {S C : Type 0} (m : MachineSpec S C) (old : RaftView S C) (base : Base S) (machine : Option S) (me size term : ℕ) (vote : Option ℕ) (log : List (Entry C)) (commit : ℕ) (known : Option ℕ) (mode : Mode) (held : Bool) → record { me = me; size = size; base = base; server = while_up machine (record { term = term; vote = vote; log = log; covered = base.index; commit = commit; known = known; mode = mode }); projected = held } ≡ old → is_up old.server.mode ≡ true → IsCompacted old.base old.server → commit ≡ base.index → log ≡ noop_prefix m base.index base.term ++ drop base.index log → Compacts m old old
 compacted_already m old base None me size term vote log commit known mode held old-is up shown same blanks = absurd (let down : false ≡ true = rw (← old-is) at up in cc)
 compacted_already m old base (Some machine) me size term vote log commit known mode held old-is up shown same blanks =
     let s : Raft _ = record { term = term; vote = vote; log = log; covered = base.index; commit = commit; known = known; mode = mode } in
-    let is : IsShown base s = rw (← old-is) at shown in
+    let is : IsCompacted base s = rw (← old-is) at shown in
     rw (← old-is) (record {
       up = rw (← old-is) at up;
       within = omega (arith, same, is.within);
@@ -44,18 +44,18 @@ compacted_already m old base (Some machine) me size term vote log commit known m
       server = sym (same_shown m base s is same blanks);
     })
 
-module _ {S C : Type 0} (m : Meaning S C) (base now : Base S) (log new : List (Entry C)) (commit term : ℕ) (now-is : now ≡ record { index = commit; term = term; state = state_from m base (take commit log) }) (new-is : new ≡ blank m commit term ++ drop commit log) (covered : base.index ≤ commit) (within : commit ≤ length log) where
-  blanks : length (blank m commit term) ≡ commit
-  blanks = blank-length m commit term []
+module _ {S C : Type 0} (m : MachineSpec S C) (base now : Base S) (log new : List (Entry C)) (commit term : ℕ) (now-is : now ≡ record { index = commit; term = term; state = state_from m base (take commit log) }) (new-is : new ≡ noop_prefix m commit term ++ drop commit log) (covered : base.index ≤ commit) (within : commit ≤ length log) where
+  blanks : length (noop_prefix m commit term) ≡ commit
+  blanks = noop_prefix-length m commit term []
 
   -- the log is as long as it was
   size : length new ≡ length log
-  size = omega (arith, ap length new-is, length-append (blank m commit term) (drop commit log), blanks, length-drop commit log)
+  size = omega (arith, ap length new-is, length-append (noop_prefix m commit term) (drop commit log), blanks, length-drop commit log)
 
   -- and leads to the state to which it led
   whole : state_from m now new ≡ state_from m base log
   whole =
-      let behind : drop commit (blank m commit term ++ drop commit log) ≡ drop commit log = ap (λ (k : ℕ). drop k (blank m commit term ++ drop commit log)) (sym blanks) ∙ drop-append_seam (blank m commit term) (drop commit log) in
+      let behind : drop commit (noop_prefix m commit term ++ drop commit log) ≡ drop commit log = ap (λ (k : ℕ). drop k (noop_prefix m commit term ++ drop commit log)) (sym blanks) ∙ drop-append_seam (noop_prefix m commit term) (drop commit log) in
       let past : base.index ≤ length (take commit log) = omega (arith, covered, length-take-le commit log within) in
       ap (λ (b : Base S). state_from m b new) now-is
       ∙ ap (λ (l : List (Entry C)). after_from m (state_from m base (take commit log)) (commands (drop commit l))) new-is
@@ -71,7 +71,7 @@ module _ {S C : Type 0} (m : Meaning S C) (base now : Base S) (log new : List (E
     levels = live.levels;
   }
 
-  leads : (role : Role) (machine ahead : Option S) → IfSome ahead (IsAhead m base log role machine) → IfSome ahead (IsAhead m now new role machine)
+  leads : (role : Role) (machine projected : Option S) → IfSome projected (IsProjected m base log role machine) → IfSome projected (IsProjected m now new role machine)
   leads role machine None is = tt
   leads role machine (Some a) is = record { up = is.up; leads = is.leads; state = is.state ∙ sym whole }
 
@@ -81,8 +81,8 @@ module _ {S C : Type 0} (m : Meaning S C) (base now : Base S) (log new : List (E
   indexes_left roles.Leader index_left = tt
 
   -- what its type keeps
-  pub compacted_keeps : (me size term : ℕ) (role : Role) (votes : List Bool) (next matched : List ℕ) (s : S) (ahead : Option S) → IsRaft m me size term base log role commit votes next matched (Some s) ahead → IsRaft m me size term now new role commit votes next matched (Some s) ahead
-  compacted_keeps me size term role votes next matched s ahead kept = record {
+  pub compacted_keeps : (me size term : ℕ) (role : Role) (votes : List Bool) (next matched : List ℕ) (s : S) (projected : Option S) → RaftInvariant m me size term base log role commit votes next matched (Some s) projected → RaftInvariant m me size term now new role commit votes next matched (Some s) projected
+  compacted_keeps me size term role votes next matched s projected kept = record {
     number = kept.number;
     group = kept.group;
     elected = kept.elected;
@@ -93,5 +93,5 @@ module _ {S C : Type 0} (m : Meaning S C) (base now : Base S) (log new : List (E
     next_most = kept.next_most;
     matched_each = kept.matched_each;
     live = lives s matched kept.live;
-    second = leads role (Some s) ahead kept.second;
+    second = leads role (Some s) projected kept.second;
   }

@@ -2,13 +2,13 @@
 use Rattle.std.proofs.Common.{◌≡◌, ℕ, zero, suc, ◌-◌, ◌^◌, ◌<◌, ◌≤◌, lit<, Bool, true, Option, Some, None, IfSome, slice_index, replicate, take, drop, add-zero, List, [], ◌∷◌, ◌++◌, length, length-append, refl, sym, ap, ◌∙◌, arith}
 use Rattle.std.proofs.Math.Seq.{take-append_seam}
 use Rattle.std.proofs.lemmas.List.{length-replicate, take-append-le, drop-take}
-use Rattle.machine_model.specs.Meaning.{Meaning}
+use Rattle.machine_model.specs.MachineSpec.{MachineSpec}
 use Rattle.machine_model.specs.declared.entry.Entry.{Entry}
 use Rattle.machine_model.specs.After.{after_from}
 use Rattle.raft_model.specs.Logs.{commands}
 use Rattle.raft_snapshot.specs.Bases.{Base, state_from}
 use Rattle.raft_model.specs.Rafts.{Raft, is_up, is_leader, extended}
-use Rattle.raft_core.specs.RaftView.{IsUpToCommit, IsAhead, HasElectionIndex, HasTerm, IsRaft, while_up, mode_of}
+use Rattle.raft_core.specs.RaftView.{IsUpToCommit, IsProjected, HasElectionIndex, HasTerm, RaftInvariant, while_up, mode_of}
 use Rattle.raft_core.specs.declared.role.Role.{Role}
 use Rattle.raft_core.specs.declared.role.Role.TheVariants as roles
 
@@ -37,12 +37,12 @@ pub filled_most : (next : List ℕ) (n k : ℕ) → next ≡ replicate n k → k
 filled_most next n k is most j = rw is (replicate_most n k (2 ^ 40) j most)
 
 -- at the base nothing more is applied
-pub state_none : {S C : Type 0} (m : Meaning S C) (base : Base S) (log : List (Entry C)) → state_from m base (take base.index log) ≡ base.state
+pub state_none : {S C : Type 0} (m : MachineSpec S C) (base : Base S) (log : List (Entry C)) → state_from m base (take base.index log) ≡ base.state
 unfolding commands
 state_none m base log = ap (λ (l : List (Entry _)). after_from m base.state (commands l)) (ap (λ (i : ℕ). drop base.index (take i log)) (sym (add-zero base.index)) ∙ drop-take base.index 0 log)
 
 -- what is covered is applied, and nothing else
-pub begun : {S C : Type 0} (m : Meaning S C) (base : Base S) (log : List (Entry C)) (matched : List ℕ) (s : S) → base.index ≤ length log → s ≡ base.state → ((j : ℕ) → slice_index matched j < 2 ^ 40) → IsUpToCommit m base log base.index matched s
+pub begun : {S C : Type 0} (m : MachineSpec S C) (base : Base S) (log : List (Entry C)) (matched : List ℕ) (s : S) → base.index ≤ length log → s ≡ base.state → ((j : ℕ) → slice_index matched j < 2 ^ 40) → IsUpToCommit m base log base.index matched s
 begun m base log matched s within is levels = record {
   covered = omega arith;
   committed = within;
@@ -50,10 +50,10 @@ begun m base log matched s within is levels = record {
   levels = levels;
 }
 
-pub fresh : {S C : Type 0} (m : Meaning S C) (base : Base S) (log : List (Entry C)) (n : ℕ) (matched : List ℕ) (s : S) → base.index ≤ length log → s ≡ base.state → matched ≡ replicate n 0 → IsUpToCommit m base log base.index matched s
+pub fresh : {S C : Type 0} (m : MachineSpec S C) (base : Base S) (log : List (Entry C)) (n : ℕ) (matched : List ℕ) (s : S) → base.index ≤ length log → s ≡ base.state → matched ≡ replicate n 0 → IsUpToCommit m base log base.index matched s
 fresh m base log n matched s within is levels = begun m base log matched s within is (λ j. rw levels (zero_levels n j))
 
-module _ {S C : Type 0} (m : Meaning S C) where
+module _ {S C : Type 0} (m : MachineSpec S C) where
   live_grown : (base : Base S) (log : List (Entry C)) (e : Entry C) (commit : ℕ) (matched : List ℕ) (machine : Option S) → IfSome machine (IsUpToCommit m base log commit matched) → IfSome machine (IsUpToCommit m base (log ++ e ∷ []) commit matched)
   live_grown base log e commit matched None live = tt
   live_grown base log e commit matched (Some s) live = record {
@@ -64,8 +64,8 @@ module _ {S C : Type 0} (m : Meaning S C) where
   }
 
   -- one more entry
-  pub grown : (me size term : ℕ) (base : Base S) (log : List (Entry C)) (e : Entry C) (old new : Role) (commit : ℕ) (votes : List Bool) (next matched : List ℕ) (machine was is : Option S) → IsRaft m me size term base log old commit votes next matched machine was → HasTerm new term → HasElectionIndex new (log ++ e ∷ []) → IfSome is (IsAhead m base (log ++ e ∷ []) new machine) → IsRaft m me size term base (log ++ e ∷ []) new commit votes next matched machine is
-  grown me size term base log e old new commit votes next matched machine was is kept elected index_left ahead = record {
+  pub grown : (me size term : ℕ) (base : Base S) (log : List (Entry C)) (e : Entry C) (old new : Role) (commit : ℕ) (votes : List Bool) (next matched : List ℕ) (machine was is : Option S) → RaftInvariant m me size term base log old commit votes next matched machine was → HasTerm new term → HasElectionIndex new (log ++ e ∷ []) → IfSome is (IsProjected m base (log ++ e ∷ []) new machine) → RaftInvariant m me size term base (log ++ e ∷ []) new commit votes next matched machine is
+  grown me size term base log e old new commit votes next matched machine was is kept elected index_left projected = record {
     number = kept.number;
     group = kept.group;
     elected = elected;
@@ -76,7 +76,7 @@ module _ {S C : Type 0} (m : Meaning S C) where
     next_most = kept.next_most;
     matched_each = kept.matched_each;
     live = live_grown base log e commit matched machine kept.live;
-    second = ahead;
+    second = projected;
   }
 
   live_reset : (base : Base S) (log : List (Entry C)) (commit : ℕ) (matched levels : List ℕ) (n : ℕ) (machine : Option S) → levels ≡ replicate n 0 → IfSome machine (IsUpToCommit m base log commit matched) → IfSome machine (IsUpToCommit m base log commit levels)
@@ -84,7 +84,7 @@ module _ {S C : Type 0} (m : Meaning S C) where
   live_reset base log commit matched levels n (Some s) is live = record { covered = live.covered; committed = live.committed; state = live.state; levels = λ j. rw is (zero_levels n j) }
 
   -- nothing is known of what others hold, and no second machine is there
-  pub reset : (me size term : ℕ) (base : Base S) (log : List (Entry C)) (role : Role) (commit : ℕ) (votes : List Bool) (old_next old_matched next matched : List ℕ) (first n k : ℕ) (machine was : Option S) → IsRaft m me size term base log role commit votes old_next old_matched machine was → 1 ≤ first → first ≤ 2 ^ 40 → next ≡ replicate n first → matched ≡ replicate k 0 → length next ≡ size → length matched ≡ size → IsRaft m me size term base log role commit votes next matched machine None
+  pub reset : (me size term : ℕ) (base : Base S) (log : List (Entry C)) (role : Role) (commit : ℕ) (votes : List Bool) (old_next old_matched next matched : List ℕ) (first n k : ℕ) (machine was : Option S) → RaftInvariant m me size term base log role commit votes old_next old_matched machine was → 1 ≤ first → first ≤ 2 ^ 40 → next ≡ replicate n first → matched ≡ replicate k 0 → length next ≡ size → length matched ≡ size → RaftInvariant m me size term base log role commit votes next matched machine None
   reset me size term base log role commit votes old_next old_matched next matched first n k machine was is least most begins none next_each matched_each = record {
     number = is.number;
     group = is.group;
@@ -100,7 +100,7 @@ module _ {S C : Type 0} (m : Meaning S C) where
   }
 
 -- what others are known to hold, of one that is up
-pub up_levels : {S C : Type 0} (m : Meaning S C) (base : Base S) (log : List (Entry C)) (commit : ℕ) (matched : List ℕ) (machine : Option S) (s : Raft C) → is_up (while_up machine s).mode ≡ true → IfSome machine (IsUpToCommit m base log commit matched) → (j : ℕ) → slice_index matched j < 2 ^ 40
+pub up_levels : {S C : Type 0} (m : MachineSpec S C) (base : Base S) (log : List (Entry C)) (commit : ℕ) (matched : List ℕ) (machine : Option S) (s : Raft C) → is_up (while_up machine s).mode ≡ true → IfSome machine (IsUpToCommit m base log commit matched) → (j : ℕ) → slice_index matched j < 2 ^ 40
 up_levels m base log commit matched None s up live = absurd (cc up)
 up_levels m base log commit matched (Some machine) s up live = live.levels
 
@@ -112,7 +112,7 @@ leader_room (Some s) term vote log more covered commit known roles.Candidate vot
 leader_room (Some s) term vote log more covered commit known roles.Leader votes next matched leads = tt
 
 -- a server that leads is up, and a second machine in the state after its whole log is one it keeps
-pub second_grown : {S C : Type 0} (m : Meaning S C) (base : Base S) (machine ahead : Option S) (term : ℕ) (vote : Option ℕ) (log more : List (Entry C)) (covered commit : ℕ) (known : Option ℕ) (role : Role) (votes : List Bool) (next matched : List ℕ) → is_leader (while_up machine (record { term = term; vote = vote; log = log; covered = covered; commit = commit; known = known; mode = mode_of role votes next matched })).mode ≡ true → IfSome ahead (λ s. s ≡ state_from m base more) → IfSome ahead (IsAhead m base more role machine)
+pub second_grown : {S C : Type 0} (m : MachineSpec S C) (base : Base S) (machine projected : Option S) (term : ℕ) (vote : Option ℕ) (log more : List (Entry C)) (covered commit : ℕ) (known : Option ℕ) (role : Role) (votes : List Bool) (next matched : List ℕ) → is_leader (while_up machine (record { term = term; vote = vote; log = log; covered = covered; commit = commit; known = known; mode = mode_of role votes next matched })).mode ≡ true → IfSome projected (λ s. s ≡ state_from m base more) → IfSome projected (IsProjected m base more role machine)
 second_grown m base machine None term vote log more covered commit known role votes next matched leads is = tt
 second_grown m base None (Some a) term vote log more covered commit known role votes next matched leads is = absurd (cc leads)
 second_grown m base (Some s) (Some a) term vote log more covered commit known roles.Follower votes next matched leads is = absurd (cc leads)
@@ -120,7 +120,7 @@ second_grown m base (Some s) (Some a) term vote log more covered commit known ro
 second_grown m base (Some s) (Some a) term vote log more covered commit known roles.Leader votes next matched leads is = record { up = refl; leads = refl; state = is }
 
 -- a second machine is in the state before the last entry of a log that grew
-pub second_behind : {S C : Type 0} (m : Meaning S C) (base : Base S) (log : List (Entry C)) (e : Entry C) (role : Role) (machine ahead : Option S) (now : Base S) (new : List (Entry C)) → now ≡ base → new ≡ log ++ e ∷ [] → IfSome ahead (IsAhead m base log role machine) → IfSome ahead (λ s. s ≡ state_from m now (take (length new - 1) new))
+pub second_behind : {S C : Type 0} (m : MachineSpec S C) (base : Base S) (log : List (Entry C)) (e : Entry C) (role : Role) (machine projected : Option S) (now : Base S) (new : List (Entry C)) → now ≡ base → new ≡ log ++ e ∷ [] → IfSome projected (IsProjected m base log role machine) → IfSome projected (λ s. s ≡ state_from m now (take (length new - 1) new))
 second_behind m base log e role machine None now new same is kept = tt
 second_behind m base log e role machine (Some s) now new same is kept =
     let size : length new - 1 ≡ length log = omega (arith, ap length is, length-append log (e ∷ [])) in

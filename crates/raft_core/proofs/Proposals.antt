@@ -2,29 +2,29 @@
 use Rattle.std.proofs.Common.{◌≡◌, ℕ, ◌&&◌, true, false, nat_lt, if◌then◌else◌, Bool, Ok, Err, Option, Some, None, List, [], ◌∷◌, length, refl, sym, ap, subst, ◌∙◌}
 use Rattle.rows.specs.declared.refusal.Refusal.{Refusal}
 use Rattle.rows.specs.declared.refusal.Refusal.TheVariants as refusals
-use Rattle.machine_model.specs.Meaning.{Meaning}
+use Rattle.machine_model.specs.MachineSpec.{MachineSpec}
 use Rattle.machine_model.specs.declared.entry.Entry.{Entry}
 use Rattle.wire.specs.Frames.{Frame}
 use Rattle.raft_model.specs.Logs.{MAX}
 use Rattle.raft_model.specs.Rafts.{Raft, RaftTurn, is_up, is_leader, silent, extended}
 use Rattle.raft_model.specs.Steps.{step, unless, Input, Propose}
 use Rattle.raft_snapshot.specs.Bases.{state_from}
-use Rattle.raft_snapshot.specs.Filled.{filled}
-use Rattle.raft_snapshot.specs.Shown.{IsShown}
-use Rattle.raft_snapshot.proofs.Logs.{filled-length, filled-grown}
+use Rattle.raft_snapshot.specs.Prefixes.{with_prefix}
+use Rattle.raft_snapshot.specs.Compacted.{IsCompacted}
+use Rattle.raft_snapshot.proofs.Logs.{with_prefix-length, with_prefix-grown}
 use Rattle.raft_snapshot.proofs.Shown.{may_fill, whole_shown}
 use Rattle.raft_core.specs.Inputs.{Own}
 use Rattle.raft_core.specs.RaftView.{RaftView}
 use Rattle.raft_core.specs.Refusals.{refusal_by, HidesNothing, IsRefused}
-use Rattle.raft_core.specs.Steps.{Represents, Steps, Takes}
+use Rattle.raft_core.specs.Steps.{Refines, Steps, Takes}
 use Rattle.raft_core.specs.Inner.Proposals.{shown_refusal, IsShownRefused}
 use Rattle.raft_core.proofs.Sends.{sends-none}
 
-module _ {S C : Type 0} (m : Meaning S C) (view : RaftView S C) (shown : IsShown view.base view.server) (command : C) (s : Raft C) (r : Represents m view s) where
+module _ {S C : Type 0} (m : MachineSpec S C) (view : RaftView S C) (shown : IsCompacted view.base view.server) (command : C) (s : Raft C) (r : Refines m view s) where
   length_is : length s.log ≡ length view.server.log
   length_is =
       let may = may_fill m view.base view.server shown r.covered r.fits in
-      ap (λ (x : Raft C). length x.log) r.is ∙ filled-length r.covered view.server.log may.within may.term
+      ap (λ (x : Raft C). length x.log) r.is ∙ with_prefix-length r.covered view.server.log may.within may.term
 
   mode_is : s.mode ≡ view.server.mode
   mode_is = ap (λ (x : Raft C). x.mode) r.is
@@ -76,25 +76,25 @@ module _ {S C : Type 0} (m : Meaning S C) (view : RaftView S C) (shown : IsShown
       let P = r.covered in
       let may = may_fill m view.base view.server shown P r.fits in
       let entry : Entry C = record { term = view.server.term; command = command } in
-      let is : extended s command ≡ filled P new.server =
+      let is : extended s command ≡ with_prefix P new.server =
       ap (λ (x : Raft C). extended x command) r.is
-      ∙ ap (λ (l : List (Entry C)). record view.server { log = l }) (filled-grown P view.server.log may.within may.term (entry ∷ []))
-      ∙ ap (filled P) (sym server) in
+      ∙ ap (λ (l : List (Entry C)). record view.server { log = l }) (with_prefix-grown P view.server.log may.within may.term (entry ∷ []))
+      ∙ ap (with_prefix P) (sym server) in
       let at : Steps m view s (Propose command) new sent sent = record {
         turn = silent (extended s command);
         step = step_is view.size view.me none;
-        represents = record { covered = P; fits = rw base r.fits; is = is };
+        refines = record { covered = P; fits = rw base r.fits; is = is };
         sent = sends-none m sent;
       } in
       subst (λ (i : Input C). Steps m view s i new sent sent) (sym reads) at
 
 -- so of each of them
-module _ {S C : Type 0} (m : Meaning S C) (view : RaftView S C) (shown : IsShown view.base view.server) (command : C) where
-  pub refused_each : (cause : Refusal) → IsShownRefused m view command cause → (s : Raft C) → Represents m view s → IsRefused m view.size view.me s (Own (Propose command)) cause
+module _ {S C : Type 0} (m : MachineSpec S C) (view : RaftView S C) (shown : IsCompacted view.base view.server) (command : C) where
+  pub refused_each : (cause : Refusal) → IsShownRefused m view command cause → (s : Raft C) → Refines m view s → IsRefused m view.size view.me s (Own (Propose command)) cause
   refused_each cause is s r = refused_as m view shown command s r view.size view.me cause is
 
-  pub hides_each : (cause : Refusal) → IsShownRefused m view command cause → (s : Raft C) → Represents m view s → HidesNothing m view.size view.me s (Own (Propose command)) cause
+  pub hides_each : (cause : Refusal) → IsShownRefused m view command cause → (s : Raft C) → Refines m view s → HidesNothing m view.size view.me s (Own (Propose command)) cause
   hides_each cause is s r = hides_as m view shown command s r view.size view.me cause is
 
-  pub proposed_each : (new : RaftView S C) → shown_refusal m view command ≡ None → new.base ≡ view.base → new.server ≡ extended view.server command → (s : Raft C) (sent : List Frame) → Represents m view s → Takes m view s (Own (Propose command)) new sent sent
+  pub proposed_each : (new : RaftView S C) → shown_refusal m view command ≡ None → new.base ≡ view.base → new.server ≡ extended view.server command → (s : Raft C) (sent : List Frame) → Refines m view s → Takes m view s (Own (Propose command)) new sent sent
   proposed_each new none base server s sent r = proposed m view shown command s r new none base server sent

@@ -1,7 +1,7 @@
 -- What a leader knows of the others' logs, after an answer.
 use Rattle.std.proofs.Common.{◌≡◌, ℕ, zero, suc, ◌-◌, ◌^◌, ◌<◌, ◌≤◌, max, min, Bool, true, false, nat_le, Option, Some, None, is_some, IfSome, List, [], ◌∷◌, ◌++◌, length, take, drop, slice_index, slice_set, refl, sym, ap, ◌∙◌, arith}
 use Rattle.std.proofs.Math.Seq.{take-append_seam}
-use Rattle.machine_model.specs.Meaning.{Meaning}
+use Rattle.machine_model.specs.MachineSpec.{MachineSpec}
 use Rattle.machine_model.specs.declared.entry.Entry.{Entry}
 use Rattle.raft_snapshot.specs.Bases.{Base, state_from}
 use Rattle.raft_model.specs.Quorums.{index_at}
@@ -9,8 +9,8 @@ use Rattle.raft_model.specs.Rafts.{Raft, Leader, greatest}
 use Rattle.raft_core.specs.Inner.Commits.{is_chosen_in}
 use Rattle.raft_core.specs.declared.role.Role.{Role}
 use Rattle.raft_core.specs.declared.role.Role.TheVariants as roles
-use Rattle.raft_core.specs.RaftView.{RaftView, mode_of, IsUpToCommit, IsAhead, IsRaft}
-use Rattle.raft_core.specs.Inner.Replies.{hears_either, next_after, match_after}
+use Rattle.raft_core.specs.RaftView.{RaftView, mode_of, IsUpToCommit, IsProjected, RaftInvariant}
+use Rattle.raft_core.specs.Inner.Replies.{after_append_reply, next_after, match_after}
 
 -- what holds of each item holds of each after a write
 set-each : (P : ℕ → Type 0) (xs : List ℕ) (i v j : ℕ) → P v → P (slice_index xs j) → P (slice_index (slice_set xs i v) j)
@@ -72,32 +72,32 @@ module _ {C : Type 0} (n me term : ℕ) (vote : Option ℕ) (log : List (Entry C
   abbrev pub leader : List ℕ → List ℕ → ℕ → Raft C
   leader next match commit = record { term = term; vote = vote; log = log; covered = covered; commit = commit; known = known; mode = Leader next match }
 
-  hears_at : (ok t : Bool) → nat_le at (length log) ≡ t → hears_either n me (leader next match commit) i ok at (Leader next match) ≡ leader (next_after (length log) i ok at next match) (match_after (length log) i ok at match) (greatest (is_chosen_in n me term log (match_after (length log) i ok at match)) commit (length log))
+  hears_at : (ok t : Bool) → nat_le at (length log) ≡ t → after_append_reply n me (leader next match commit) i ok at (Leader next match) ≡ leader (next_after (length log) i ok at next match) (match_after (length log) i ok at match) (greatest (is_chosen_in n me term log (match_after (length log) i ok at match)) commit (length log))
   hears_at true true is = rw is refl
   hears_at true false is = rw is refl
   hears_at false t is = refl
 
   -- a leader that has heard
-  pub leader_hears : (ok : Bool) → hears_either n me (leader next match commit) i ok at (Leader next match) ≡ leader (next_after (length log) i ok at next match) (match_after (length log) i ok at match) (greatest (is_chosen_in n me term log (match_after (length log) i ok at match)) commit (length log))
+  pub leader_hears : (ok : Bool) → after_append_reply n me (leader next match commit) i ok at (Leader next match) ≡ leader (next_after (length log) i ok at next match) (match_after (length log) i ok at match) (greatest (is_chosen_in n me term log (match_after (length log) i ok at match)) commit (length log))
   leader_hears ok = hears_at ok (nat_le at (length log)) refl
 
 -- a list that was lent out is put back whole
 pub put_back : (xs ys : List ℕ) (len : ℕ) → len ≡ length ys → take len (ys ++ drop (length ys) xs) ≡ ys
 put_back xs ys len is = ap (λ (n : ℕ). take n (ys ++ drop (length ys) xs)) is ∙ take-append_seam ys (drop (length ys) xs)
 
-live_at : {S C : Type 0} (m : Meaning S C) (base : Base S) (log : List (Entry C)) (commit : ℕ) (match : List ℕ) (new : Option S) → IfSome new (λ s. (base.index ≤ commit) × (commit ≤ length log) × (s ≡ state_from m base (take commit log))) → ((j : ℕ) → slice_index match j < 2 ^ 40) → IfSome new (IsUpToCommit m base log commit match)
+live_at : {S C : Type 0} (m : MachineSpec S C) (base : Base S) (log : List (Entry C)) (commit : ℕ) (match : List ℕ) (new : Option S) → IfSome new (λ s. (base.index ≤ commit) × (commit ≤ length log) × (s ≡ state_from m base (take commit log))) → ((j : ℕ) → slice_index match j < 2 ^ 40) → IfSome new (IsUpToCommit m base log commit match)
 live_at m base log commit match None live levels = tt
 live_at m base log commit match (Some s) live levels = record { covered = live.0; committed = live.1; state = live.2; levels = levels }
 
 -- a second machine is kept while the first is there
-pub second_stays : {S C : Type 0} (m : Meaning S C) (base : Base S) (log : List (Entry C)) (role : Role) (old new ahead : Option S) → is_some new ≡ true → IfSome ahead (IsAhead m base log role old) → IfSome ahead (IsAhead m base log role new)
+pub second_stays : {S C : Type 0} (m : MachineSpec S C) (base : Base S) (log : List (Entry C)) (role : Role) (old new projected : Option S) → is_some new ≡ true → IfSome projected (IsProjected m base log role old) → IfSome projected (IsProjected m base log role new)
 second_stays m base log role old new None up kept = tt
 second_stays m base log role old new (Some s) up kept = record { up = up; leads = kept.leads; state = kept.state }
 
-module _ {S C : Type 0} (m : Meaning S C) (me size term : ℕ) (base : Base S) (log : List (Entry C)) (role : Role) (votes : List Bool) (next match : List ℕ) (i at : ℕ) where
+module _ {S C : Type 0} (m : MachineSpec S C) (me size term : ℕ) (base : Base S) (log : List (Entry C)) (role : Role) (votes : List Bool) (next match : List ℕ) (i at : ℕ) where
   -- a server keeps what its type asks, whatever an answer says
-  pub keeps : (ok : Bool) (before after : ℕ) (old new was is : Option S) → IsRaft m me size term base log role before votes next match old was → ((j : ℕ) → slice_index match j < 2 ^ 40) → at < 2 ^ 40 → IfSome new (λ s. (base.index ≤ after) × (after ≤ length log) × (s ≡ state_from m base (take after log))) → IfSome is (IsAhead m base log role new) → IsRaft m me size term base log role after votes (next_after (length log) i ok at next match) (match_after (length log) i ok at match) new is
-  keeps ok before after old new was is kept levels short live ahead = record {
+  pub keeps : (ok : Bool) (before after : ℕ) (old new was is : Option S) → RaftInvariant m me size term base log role before votes next match old was → ((j : ℕ) → slice_index match j < 2 ^ 40) → at < 2 ^ 40 → IfSome new (λ s. (base.index ≤ after) × (after ≤ length log) × (s ≡ state_from m base (take after log))) → IfSome is (IsProjected m base log role new) → RaftInvariant m me size term base log role after votes (next_after (length log) i ok at next match) (match_after (length log) i ok at match) new is
+  keeps ok before after old new was is kept levels short live projected = record {
     number = kept.number;
     group = kept.group;
     elected = kept.elected;
@@ -108,11 +108,11 @@ module _ {S C : Type 0} (m : Meaning S C) (me size term : ℕ) (base : Base S) (
     next_most = next-most (length log) i at ok next match short levels kept.next_most;
     matched_each = match-length (length log) i at ok match ∙ kept.matched_each;
     live = live_at m base log after (match_after (length log) i ok at match) new live (match-below (length log) i at ok match short levels);
-    second = ahead;
+    second = projected;
   }
 
 -- what the code leaves is a leader that has heard
-pub heard_by : {S C : Type 0} (old : RaftView S C) (base : Base S) (me size term : ℕ) (vote : Option ℕ) (log : List (Entry C)) (covered commit : ℕ) (known : Option ℕ) (role : Role) (votes : List Bool) (next match new_next new_match : List ℕ) (new_commit i at : ℕ) (ok held : Bool) → record { me = me; size = size; base = base; server = record { term = term; vote = vote; log = log; covered = covered; commit = commit; known = known; mode = mode_of role votes next match }; projected = held } ≡ old → role ≡ roles.Leader → new_next ≡ next_after (length log) i ok at next match → new_match ≡ match_after (length log) i ok at match → length match ≡ size → new_commit ≡ greatest (is_chosen_in (length new_match) me term log new_match) commit (length log) → record { term = term; vote = vote; log = log; covered = covered; commit = new_commit; known = known; mode = mode_of role votes new_next new_match } ≡ hears_either old.size old.me old.server i ok at old.server.mode
+pub heard_by : {S C : Type 0} (old : RaftView S C) (base : Base S) (me size term : ℕ) (vote : Option ℕ) (log : List (Entry C)) (covered commit : ℕ) (known : Option ℕ) (role : Role) (votes : List Bool) (next match new_next new_match : List ℕ) (new_commit i at : ℕ) (ok held : Bool) → record { me = me; size = size; base = base; server = record { term = term; vote = vote; log = log; covered = covered; commit = commit; known = known; mode = mode_of role votes next match }; projected = held } ≡ old → role ≡ roles.Leader → new_next ≡ next_after (length log) i ok at next match → new_match ≡ match_after (length log) i ok at match → length match ≡ size → new_commit ≡ greatest (is_chosen_in (length new_match) me term log new_match) commit (length log) → record { term = term; vote = vote; log = log; covered = covered; commit = new_commit; known = known; mode = mode_of role votes new_next new_match } ≡ after_append_reply old.size old.me old.server i ok at old.server.mode
 heard_by old base me size term vote log covered commit known role votes next match new_next new_match new_commit i at ok held old-is leads next-is match-is each risen =
     let n : length new_match ≡ size = ap length match-is ∙ match-length (length log) i at ok match ∙ each in
     rw (← old-is, leads, risen, n, next-is, match-is) (sym (leader_hears size me term vote log covered commit known next match i at ok))

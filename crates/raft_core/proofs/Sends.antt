@@ -4,7 +4,7 @@ use Rattle.std.proofs.lemmas.Bool.{eq-eqb, ne_eqb}
 use Rattle.std.proofs.Math.Seq.{take-append_seam, take-length}
 use Rattle.std.proofs.lemmas.List.{append-nil, length-take, take-take}
 use Rattle.std.specs.List.{AllZip}
-use Rattle.machine_model.specs.Meaning.{Meaning}
+use Rattle.machine_model.specs.MachineSpec.{MachineSpec}
 use Rattle.raft_model.specs.Messages.{Message, to_others}
 use Rattle.rows.specs.declared.actor.Actor.TheVariants.{Server}
 use Rattle.wire.specs.Frames.{Frame, ListsFrame, frame_of}
@@ -17,7 +17,7 @@ use Rattle.raft_core.specs.Frames.{FrameCarries, Means, Sends, log_message}
 use Rattle.raft_core.specs.Inner.Turns.{KeepsFront}
 use Rattle.raft_core.specs.Inner.Moves.{is_install}
 
-module _ {S C : Type 0} (m : Meaning S C) where
+module _ {S C : Type 0} (m : MachineSpec S C) where
   pub sends-none : (all : List Frame) → Sends m all all []
   sends-none all = record { frames = []; added = sym (append-nil all); carry = tt }
 
@@ -34,7 +34,7 @@ module _ {S C : Type 0} (m : Meaning S C) where
     carry = carry-more p.frames q.frames xs ys p.carry q.carry;
   }
 
-module _ {S C : Type 0} (m : Meaning S C) (me : ℕ) (f : ℕ → Message C) where
+module _ {S C : Type 0} (m : MachineSpec S C) (me : ℕ) (f : ℕ → Message C) where
   others_skip : (k : ℕ) → k ≡ me → to_others me f (k + 1) ≡ to_others me f k ++ []
   unfolding to_others
   others_skip k e = let q : k + 1 ≡ suc k = omega arith in let b : (k == me) ≡ true = eq-eqb k me e in rw q (rw b refl)
@@ -54,7 +54,7 @@ module _ {S C : Type 0} (m : Meaning S C) (me : ℕ) (f : ℕ → Message C) whe
   unfolding to_others
   asks_none a = sends-none m a
 
-module _ {S C : Type 0} (m : Meaning S C) where
+module _ {S C : Type 0} (m : MachineSpec S C) where
   pub sent_front : (a b : List Frame) (xs : List (Message C)) → Sends m a b xs → KeepsFront a b
   sent_front a b xs p = rw p.added (take-append_seam a p.frames)
 
@@ -95,7 +95,7 @@ may_go_by kinds.Told from to other log = absurd (cc log)
 pub may_go_between : {S C : Type 0} (from to : ℕ) (body : Body S C) → from ≢ to → is_of_log (kind_of body) ≡ true → may_go (kind_of body) (Server from) (Server to) ≡ true
 may_go_between from to body other log = may_go_by (kind_of body) from to other log
 
-module _ {S C : Type 0} (m : Meaning S C) where
+module _ {S C : Type 0} (m : MachineSpec S C) where
   sends_said : (read : WireMessage S C) (x : Message C) (before after : List Frame) → Means m read x → ListsFrame m read before after → Sends m before after (x ∷ [])
   sends_said read x before after means listed = record {
     frames = frame_of m read ∷ [];

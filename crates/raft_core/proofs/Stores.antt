@@ -1,14 +1,14 @@
 -- What a server stores, of each server that a value stands for.
 use Rattle.std.proofs.Common.{◌≡◌, sym, ap, ◌∙◌}
-use Rattle.machine_model.specs.Meaning.{Meaning}
+use Rattle.machine_model.specs.MachineSpec.{MachineSpec}
 use Rattle.raft_model.specs.Rafts.{Raft}
-use Rattle.raft_snapshot.specs.Shown.{IsShown}
+use Rattle.raft_snapshot.specs.Compacted.{IsCompacted}
 use Rattle.raft_snapshot.specs.Stored.{Stored}
 use Rattle.raft_core.specs.RaftView.{RaftView}
-use Rattle.raft_core.specs.Steps.{Represents, Stores}
+use Rattle.raft_core.specs.Steps.{Refines, Stores}
 use Rattle.raft_core.specs.StoredParts.{stored_part}
 
-pub stores_each : {S C : Type 0} (m : Meaning S C) (view : RaftView S C) → IsShown view.base view.server → (stored : Stored S C) → stored ≡ stored_part view → (s : Raft C) → Represents m view s → Stores m stored s
+pub stores_each : {S C : Type 0} (m : MachineSpec S C) (view : RaftView S C) → IsCompacted view.base view.server → (stored : Stored S C) → stored ≡ stored_part view → (s : Raft C) → Refines m view s → Stores m stored s
 stores_each m view shown stored is s r = rw is (record {
   term = sym (ap (λ (x : Raft _). x.term) r.is);
   vote = sym (ap (λ (x : Raft _). x.vote) r.is);

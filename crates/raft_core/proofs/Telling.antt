@@ -4,7 +4,7 @@ use Rattle.std.proofs.lemmas.Bool.{leb-false}
 use Rattle.rows.specs.declared.actor.Actor.{Actor}
 use Rattle.rows.specs.declared.actor.Actor.TheVariants as actors
 use Rattle.rows.specs.declared.refusal.Refusal.TheVariants as refusals
-use Rattle.machine_model.specs.Meaning.{Meaning}
+use Rattle.machine_model.specs.MachineSpec.{MachineSpec}
 use Rattle.rows.specs.declared.worker.WorkerRequest.{WorkerRequest}
 use Rattle.rows.specs.declared.worker.WorkerRequest.TheVariants as requests
 use Rattle.rows.specs.declared.worker.WorkerResponse.{WorkerResponse}
@@ -13,13 +13,13 @@ use Rattle.wire.specs.Messages.{Message as WireMessage, kind_of, is_of_log, requ
 use Rattle.wire.specs.Frames.{Frame, MessageFits, message_text}
 use Rattle.wire.specs.declared.body.Body.{Body}
 use Rattle.wire.specs.declared.body.Body.TheVariants as bodies
-use Rattle.raft_model.specs.Rafts.{Raft, RaftTurn, Follower, met, is_leader}
+use Rattle.raft_model.specs.Rafts.{Raft, RaftTurn, Follower, term_observed, is_leader}
 use Rattle.raft_model.specs.Messages.{Message}
 use Rattle.raft_model.specs.Steps.{Input, Arrives, Timeout, Beat, Propose, Compact, Crash, Restart, step}
 use Rattle.raft_snapshot.specs.Bases.{Base}
 use Rattle.raft_snapshot.specs.Changes.{TermsTell}
-use Rattle.raft_snapshot.specs.Filled.{takes_snapshot}
-use Rattle.raft_snapshot.specs.Shown.{IsShown, base_after}
+use Rattle.raft_snapshot.specs.Prefixes.{takes_snapshot}
+use Rattle.raft_snapshot.specs.Compacted.{IsCompacted, base_after}
 use Rattle.raft_snapshot.proofs.TermsOfMerges.{tells_same}
 use Rattle.raft_snapshot.proofs.TermsOfSteps.{step_tells}
 use Rattle.raft_core.specs.Frames.{log_message, base_of}
@@ -29,12 +29,12 @@ use Rattle.raft_core.specs.Refusals.{message_fault, misdirected}
 use Rattle.raft_core.specs.StoredParts.{KeepsLog, MayKeepLog}
 use Rattle.raft_core.specs.Inner.Moves.{Moves, MovesBy, MovesFrame, Shows, WasRead, IsReadIn, base_left}
 
-module _ {S C : Type 0} (m : Meaning S C) where
+module _ {S C : Type 0} (m : MachineSpec S C) where
   same_keeps : (old new : RaftView S C) → new ≡ old → KeepsLog old new
   same_keeps old new is = subst (KeepsLog old) (sym is) (record { base = refl; entries = tells_same old.server.commit old.server.log })
 
   -- a snapshot that is taken over covers more than the one before
-  base_case : (old : RaftView S C) (term : ℕ) (snapshot new : Base S) (s : Raft C) (x y z : Bool) → s.commit ≡ old.server.commit → IsShown old.base old.server
+  base_case : (old : RaftView S C) (term : ℕ) (snapshot new : Base S) (s : Raft C) (x y z : Bool) → s.commit ≡ old.server.commit → IsCompacted old.base old.server
       → new ≡ cond (cond x false (cond y false (not z))) snapshot old.base → leb snapshot.index s.commit ≡ z → new.index ≡ old.base.index → new ≡ old.base
   base_case old term snapshot new s true y z commit shown is low index = is
   base_case old term snapshot new s false true z commit shown is low index = is
@@ -46,13 +46,13 @@ module _ {S C : Type 0} (m : Meaning S C) where
   met_commit true s t e = e
   met_commit false s t e = refl
 
-  left_same : (old : RaftView S C) (new : Base S) (body : Body S C) → IsShown old.base old.server → new ≡ base_left old body → new.index ≡ old.base.index → new ≡ old.base
+  left_same : (old : RaftView S C) (new : Base S) (body : Body S C) → IsCompacted old.base old.server → new ≡ base_left old body → new.index ≡ old.base.index → new ≡ old.base
   left_same old new (bodies.VoteRequest v) shown is index = is
   left_same old new (bodies.VoteReply v) shown is index = is
   left_same old new (bodies.Append a) shown is index = is
   left_same old new (bodies.AppendReply r) shown is index = is
   left_same old new (bodies.Install i) shown is index =
-      let s = met i.head.term old.server in
+      let s = term_observed i.head.term old.server in
       base_case old i.head.term (base_of i) new s (nat_lt i.head.term s.term) (is_leader s.mode) (leb i.head.index s.commit)
       (met_commit (nat_lt old.server.term i.head.term) old.server (record old.server { term = i.head.term; vote = None; known = None; mode = Follower }) refl) shown is refl index
   left_same old new (bodies.InstallReply r) shown is index = is
@@ -65,7 +65,7 @@ module _ {S C : Type 0} (m : Meaning S C) where
   left_same old new (bodies.Report a) shown is index = is
   left_same old new (bodies.Told a b) shown is index = is
 
-  module _ (old new : RaftView S C) (before after : List Frame) (reaches : old.server.commit ≤ length old.server.log) (shown : IsShown old.base old.server) (now : IsShown new.base new.server) where
+  module _ (old new : RaftView S C) (before after : List Frame) (reaches : old.server.commit ≤ length old.server.log) (shown : IsCompacted old.base old.server) (now : IsCompacted new.base new.server) where
     moved : (left : Base S) (input : Input C) → Moves m left old input new before after → (new.base.index ≡ old.base.index → new.base ≡ old.base) → new.base.index ≡ old.base.index → KeepsLog old new
     moved left input moves same index =
         let server = moves.taken.server in

@@ -1,6 +1,6 @@
 -- What is handed to a server.
 use Rattle.std.specs.Prelude.{◌≡◌, ℕ, List}
-use Rattle.machine_model.specs.Meaning.{Meaning}
+use Rattle.machine_model.specs.MachineSpec.{MachineSpec}
 use Rattle.raft_model.specs.Messages.{Message}
 use Rattle.raft_model.specs.Steps.{Input, Arrives, Timeout, Beat, Compact, Crash, Restart}
 use Rattle.raft_core.specs.declared.input.Input.{Input as CodeInput}
@@ -23,7 +23,7 @@ handed inputs.Restart = Own Restart
 
 -- an input of the definitions that it is: bytes are the arrival of each message whose frame they
 -- are
-abbrev pub Reads : {S C : Type 0} → Meaning S C → Handed C → Input C → Type 0
+abbrev pub Reads : {S C : Type 0} → MachineSpec S C → Handed C → Input C → Type 0
 Reads {C = C} m (Bytes bytes) input =
     (message : Message C) × IsFrameOf m bytes message × (input ≡ Arrives message)
 Reads m (Own own) input = input ≡ own

@@ -1,6 +1,6 @@
 -- What a contract sees of a server, and what its type keeps.
 use Rattle.std.specs.Prelude.{◌≡◌, ℕ, ◌+◌, ◌^◌, ◌<◌, ◌≤◌, Bool, ◌&&◌, true, Option, Some, None, List, length, take, slice_index, is_some, IfSome}
-use Rattle.machine_model.specs.Meaning.{Meaning}
+use Rattle.machine_model.specs.MachineSpec.{MachineSpec}
 use Rattle.machine_model.specs.declared.entry.Entry.{Entry}
 use Rattle.raft_model.specs.Rafts.{Raft, Mode, is_leader, crashed}
 use Rattle.raft_model.specs.Rafts.{Follower as FollowerMode, Candidate as CandidateMode, Leader as LeaderMode}
@@ -34,17 +34,17 @@ abbrev pub IsCrashOf : {S C : Type 0} → RaftView S C → RaftView S C → Type
 IsCrashOf old new = (new.server ≡ crashed old.server) × (new.base ≡ old.base)
 
 -- one that leads on keeps the machine after its whole log
-abbrev pub KeepsAhead : {S C : Type 0} → RaftView S C → RaftView S C → Type 0
-KeepsAhead old new = old.projected ≡ true → is_leader new.server.mode ≡ true → new.projected ≡ true
+abbrev pub KeepsProjected : {S C : Type 0} → RaftView S C → RaftView S C → Type 0
+KeepsProjected old new = old.projected ≡ true → is_leader new.server.mode ≡ true → new.projected ≡ true
 
 -- a value with a second machine, or without: only a leader's counts
-abbrev pub with_ahead : {S C : Type 0} → ℕ → ℕ → Base S → Option S → Raft C → RaftView S C
-with_ahead me size base ahead s = record {
+abbrev pub with_projected : {S C : Type 0} → ℕ → ℕ → Base S → Option S → Raft C → RaftView S C
+with_projected me size base projected s = record {
   me = me;
   size = size;
   base = base;
   server = s;
-  projected = is_some ahead && is_leader s.mode;
+  projected = is_some projected && is_leader s.mode;
 }
 
 abbrev pub mode_of : Role → List Bool → List ℕ → List ℕ → Mode
@@ -58,17 +58,17 @@ while_up None s = crashed s
 while_up (Some machine) s = s
 
 -- While it is up, its machine is in the state after the committed entries.
-pub record IsUpToCommit {S C : Type 0} (m : Meaning S C) (base : Base S) (log : List (Entry C)) (commit : ℕ) (matched : List ℕ) (machine : S) : Type 0 where
+pub record IsUpToCommit {S C : Type 0} (m : MachineSpec S C) (base : Base S) (log : List (Entry C)) (commit : ℕ) (matched : List ℕ) (machine : S) : Type 0 where
   pub covered : base.index ≤ commit
   pub committed : commit ≤ length log
   pub state : machine ≡ state_from m base (take commit log)
   pub levels : (j : ℕ) → slice_index matched j < 2 ^ 40
 
 -- A second machine is there only while it is up and leads, and is in the state after the whole log.
-pub record IsAhead {S C : Type 0} (m : Meaning S C) (base : Base S) (log : List (Entry C)) (role : Role) (machine : Option S) (ahead : S) : Type 0 where
+pub record IsProjected {S C : Type 0} (m : MachineSpec S C) (base : Base S) (log : List (Entry C)) (role : Role) (machine : Option S) (projected : S) : Type 0 where
   pub up : is_some machine ≡ true
   pub leads : role ≡ Leader
-  pub state : ahead ≡ state_from m base log
+  pub state : projected ≡ state_from m base log
 
 -- a candidate has an index left for the no-op of its election
 abbrev pub HasElectionIndex : {C : Type 0} → Role → List (Entry C) → Type 0
@@ -84,7 +84,7 @@ HasTerm Leader term = 1 ≤ term
 
 -- Each of the lists by server number has an item for each server. A next index is one that a log
 -- may grow to.
-pub record IsRaft {S C : Type 0} (m : Meaning S C) (me size term : ℕ) (base : Base S) (log : List (Entry C)) (role : Role) (commit : ℕ) (votes : List Bool) (next matched : List ℕ) (machine ahead : Option S) : Type 0 where
+pub record RaftInvariant {S C : Type 0} (m : MachineSpec S C) (me size term : ℕ) (base : Base S) (log : List (Entry C)) (role : Role) (commit : ℕ) (votes : List Bool) (next matched : List ℕ) (machine projected : Option S) : Type 0 where
   pub number : me < size
   pub group : size ≤ 5
   pub elected : HasTerm role term
@@ -95,4 +95,4 @@ pub record IsRaft {S C : Type 0} (m : Meaning S C) (me size term : ℕ) (base : 
   pub next_most : (j : ℕ) → slice_index next j ≤ 2 ^ 40
   pub matched_each : length matched ≡ size
   pub live : IfSome machine (IsUpToCommit m base log commit matched)
-  pub second : IfSome ahead (IsAhead m base log role machine)
+  pub second : IfSome projected (IsProjected m base log role machine)

@@ -1,7 +1,7 @@
 -- Which server a value is, and what it does with what is handed in.
 use Rattle.std.specs.Prelude.{◌≡◌, ℕ, ◌<◌, Option, Some, None, Ok, List}
 use Rattle.rows.specs.GroupSizes.{IsGroup}
-use Rattle.machine_model.specs.Meaning.{Meaning}
+use Rattle.machine_model.specs.MachineSpec.{MachineSpec}
 use Rattle.wire.specs.Messages.{Message as WireMessage}
 use Rattle.wire.specs.Frames.{Frame}
 use Rattle.raft_model.specs.Rafts.{Raft, RaftTurn, Mode}
@@ -11,7 +11,7 @@ use Rattle.raft_model.specs.Steps.{Input, Arrives, step}
 use Rattle.raft_core.specs.declared.role.Role.{Role}
 use Rattle.raft_core.specs.declared.role.Role.TheVariants as roles
 use Rattle.raft_snapshot.specs.Kept.{IsLogOf}
-use Rattle.raft_snapshot.specs.Shown.{StandsFor}
+use Rattle.raft_snapshot.specs.Compacted.{IsCompactionOf}
 use Rattle.raft_snapshot.specs.Stored.{Stored}
 use Rattle.raft_core.specs.RaftView.{RaftView}
 use Rattle.raft_core.specs.Frames.{Means, Sends}
@@ -19,11 +19,11 @@ use Rattle.raft_core.specs.Inputs.{Handed, Reads}
 
 -- Which servers of the definitions a value is: each that has, in place of the blank entries, some
 -- that its snapshot covers.
-abbrev pub Represents : {S C : Type 0} → Meaning S C → RaftView S C → Raft C → Type 0
-Represents m view s = StandsFor m view.base view.server s
+abbrev pub Refines : {S C : Type 0} → MachineSpec S C → RaftView S C → Raft C → Type 0
+Refines m view s = IsCompactionOf m view.base view.server s
 
 -- what is stored is what this server stores
-pub record Stores {S C : Type 0} (m : Meaning S C) (stored : Stored S C) (s : Raft C) : Type 0 where
+pub record Stores {S C : Type 0} (m : MachineSpec S C) (stored : Stored S C) (s : Raft C) : Type 0 where
   pub term : stored.term ≡ s.term
   pub vote : stored.vote ≡ s.vote
   pub log : IsLogOf m stored.log s.log
@@ -40,21 +40,21 @@ abbrev pub IsGroupMember : ℕ → ℕ → Type 0
 IsGroupMember n me = IsGroup n × (me < n)
 
 -- the input leads from the one server to one that the new value is, and its messages were sent
-pub record Steps {S C : Type 0} (m : Meaning S C) (old : RaftView S C) (s : Raft C) (input : Input C)
+pub record Steps {S C : Type 0} (m : MachineSpec S C) (old : RaftView S C) (s : Raft C) (input : Input C)
     (new : RaftView S C) (before after : List Frame) : Type 0 where
   pub turn : RaftTurn C
   pub step : step m old.size old.me s input ≡ Ok turn
-  pub represents : Represents m new turn.server
+  pub refines : Refines m new turn.server
   pub sent : Sends m before after turn.sent
 
 -- so for each input that what is handed in may be
-abbrev pub Takes : {S C : Type 0} → Meaning S C → RaftView S C → Raft C → Handed C → RaftView S C
+abbrev pub Takes : {S C : Type 0} → MachineSpec S C → RaftView S C → Raft C → Handed C → RaftView S C
     → List Frame → List Frame → Type 0
 Takes {C = C} m old s h new before after =
     (input : Input C) → Reads m h input → Steps m old s input new before after
 
 -- and so for the arrival of each message that the one that was read is
-abbrev pub TakesMessage : {S C : Type 0} → Meaning S C → RaftView S C → Raft C → WireMessage S C
+abbrev pub TakesMessage : {S C : Type 0} → MachineSpec S C → RaftView S C → Raft C → WireMessage S C
     → RaftView S C → List Frame → List Frame → Type 0
 TakesMessage {C = C} m old s read new before after =
     (message : Message C) → Means m read message → Steps m old s (Arrives message) new before after

@@ -3,8 +3,8 @@ use Rattle.std.specs.Prelude.{◌≡◌, ℕ, suc, ◌≤◌, ◌<◌, ◌⊎◌
 use Rattle.machine_model.specs.declared.entry.Entry.{Entry}
 use Rattle.raft_model.specs.Logs.{term_at}
 use Rattle.raft_model.specs.Rafts.{Raft, is_up}
-use Rattle.raft_core.specs.declared.ticket.Standing.{Standing}
-use Rattle.raft_core.specs.declared.ticket.Standing.TheVariants.{Open, Settled, Lost, Covered}
+use Rattle.raft_core.specs.declared.ticket.ProposalStatus.{ProposalStatus}
+use Rattle.raft_core.specs.declared.ticket.ProposalStatus.TheVariants.{Pending, Committed, Superseded, Compacted}
 
 -- the command is the last entry of the server's log: at this index, and in this term, which is the
 -- server's own
@@ -26,11 +26,11 @@ HasNoTermAt s index = (index ≤ s.covered) ⊎ (length s.log < index)
 
 -- What a server that is up knows of this index and this term: nothing while it has not applied so
 -- many entries, nor where its snapshot covers the entry; else whether that has this term.
-abbrev pub standing_of : {C : Type 0} → Raft C → ℕ → ℕ → Option Standing
-standing_of s index term =
+abbrev pub proposal_status_of : {C : Type 0} → Raft C → ℕ → ℕ → Option ProposalStatus
+proposal_status_of s index term =
     if is_up s.mode
-    then Some (if nat_lt s.commit index then Open
-    else if nat_le index s.covered then Covered
-    else if term_at s.log index == term then Settled
-    else Lost)
+    then Some (if nat_lt s.commit index then Pending
+    else if nat_le index s.covered then Compacted
+    else if term_at s.log index == term then Committed
+    else Superseded)
     else None

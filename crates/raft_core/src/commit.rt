@@ -103,7 +103,7 @@ pub fn advance<M: Machine, W: Watch<M>>(
     requires group { length matched.now ≤ 5 }
     requires covered { log.now.base.index ≤ commit }
     requires committed { commit ≤ length log.now.entries }
-    requires state { machine.old ≡ state_from M.meaning log.now.base
+    requires state { machine.old ≡ state_from M.spec log.now.base
         (take commit log.now.entries) }
     ensures value { IfOk result (λ n. n
         ≡ greatest (is_chosen_in (length matched.now) me term log.now.entries matched.now) commit
@@ -111,9 +111,9 @@ pub fn advance<M: Machine, W: Watch<M>>(
     ensures rises { IfOk result (λ n. commit ≤ n) }
     ensures within { IfOk result (λ n. n ≤ length log.now.entries) }
     ensures state { IfOk result (λ n. machine.new
-        ≡ state_from M.meaning log.now.base (take n log.now.entries)) }
-    ensures seen { IfOk result (λ n. SeesAll M.meaning W.sees term
-        (state_from M.meaning log.now.base (take commit log.now.entries))
+        ≡ state_from M.spec log.now.base (take n log.now.entries)) }
+    ensures seen { IfOk result (λ n. SeesAll M.spec W.sees term
+        (state_from M.spec log.now.base (take commit log.now.entries))
         (drop commit (take n log.now.entries)) watch.old watch.new) }
 {
     let to = risen::<M>(me, commit, term, log, matched);

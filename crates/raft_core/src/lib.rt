@@ -5,7 +5,7 @@
 mod commit;
 mod input;
 mod log;
-mod no_projection;
+mod not_projected;
 mod raft;
 mod release;
 mod role;
@@ -14,8 +14,8 @@ mod ticket;
 
 pub use commit::commit_is_greatest;
 pub use input::Input;
-pub use no_projection::NoProjection;
+pub use not_projected::NotProjected;
 pub use raft::{NotRestarted, Raft};
 pub use raft_snapshot::{Stable, Unwatched, Watch};
 pub use role::Role;
-pub use ticket::{Standing, Ticket};
+pub use ticket::{ProposalStatus, Ticket};

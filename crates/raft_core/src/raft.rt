@@ -9,23 +9,23 @@ mod votes;
 
 ghost use Rattle.std.specs.Prelude.{◌≡◌, ◌≤◌, true, false, is_some, None, length, take, replicate, OnOk, OnErr, IfOk, IfErr, IfSome, MatchBool, MatchOption};
 ghost use Rattle.raft_model.specs.Logs.{last_term, state_after};
-ghost use Rattle.raft_model.specs.Rafts.{Raft as AnyRaft, is_up, is_leader, met, crashed, restarted};
+ghost use Rattle.raft_model.specs.Rafts.{Raft as AnyRaft, is_up, is_leader, term_observed, crashed, restarted};
 ghost use Rattle.raft_core.specs.Inputs.{handed};
-ghost use Rattle.raft_core.specs.Steps.{Represents, Stores, Takes, role_of, IsGroupMember};
+ghost use Rattle.raft_core.specs.Steps.{Refines, Stores, Takes, role_of, IsGroupMember};
 ghost use Rattle.raft_core.specs.Refusals.{refusal, HidesNothing, IsRefused, RefusalLeaves, RefusalShows, Stays, WhyNot};
 ghost use Rattle.raft_core.specs.Inner.Stops.{EndsRefused};
 ghost use Rattle.raft_core.specs.Inner.Views.{with_server};
 ghost use Rattle.raft_core.specs.Inner.Moves.{MovesBy, IsReadIn};
 ghost use Rattle.raft_core.specs.StoredParts.{stored_part, MayKeepLog};
-ghost use Rattle.raft_core.specs.Tickets.{HasTermAt, HasNoTermAt, standing_of};
-ghost use Rattle.raft_core.specs.RaftView.{SameNumber, IsCrashOf, KeepsAhead};
-ghost use Rattle.raft_snapshot.specs.Shown.{IsShown, shown_state};
+ghost use Rattle.raft_core.specs.Tickets.{HasTermAt, HasNoTermAt, proposal_status_of};
+ghost use Rattle.raft_core.specs.RaftView.{SameNumber, IsCrashOf, KeepsProjected};
+ghost use Rattle.raft_snapshot.specs.Compacted.{IsCompacted, compacted_state};
 ghost use Rattle.raft_snapshot.specs.Watching.{SeesStep, ShowsStep};
 
 use crate::input::Input;
 use crate::release::forget;
 use crate::role::Role;
-use crate::ticket::{Standing, Ticket};
+use crate::ticket::{ProposalStatus, Ticket};
 use machine::Machine;
 use raft_snapshot::{Log, Stable, Unwatched, Watch};
 use rows::{Index, LeaderTerm, NoMemory, Refusal, ServerId, Term, is_group_size};
@@ -53,17 +53,17 @@ pub struct Raft<M: Machine> {
     /// A leader's machine after its whole log, committed or not, once a call has asked for it. What
     /// the leader appends is applied to it; without memory for that it is dropped, and the next
     /// call that needs one makes it again.
-    ahead: Option<M>,
+    projected: Option<M>,
 }
 
 impl<M: Machine> Model for Raft<M> {
-    ghost use Rattle.raft_core.specs.RaftView.{RaftView, with_ahead, while_up, mode_of, IsRaft};
+    ghost use Rattle.raft_core.specs.RaftView.{RaftView, with_projected, while_up, mode_of, RaftInvariant};
 
     ghost Value = { RaftView M M.Command };
 
-    ghost view = { λ a. with_ahead a.me a.size a.log.base a.ahead (while_up a.machine (record { term = a.term; vote = a.vote; log = a.log.entries; covered = a.log.base.index; commit = a.commit; known = a.known; mode = mode_of a.role a.votes.items a.next.items a.matched.items })) };
+    ghost view = { λ a. with_projected a.me a.size a.log.base a.projected (while_up a.machine (record { term = a.term; vote = a.vote; log = a.log.entries; covered = a.log.base.index; commit = a.commit; known = a.known; mode = mode_of a.role a.votes.items a.next.items a.matched.items })) };
 
-    ghost invariant = { λ a. IsRaft M.meaning a.me a.size a.term a.log.base a.log.entries a.role a.commit a.votes.items a.next.items a.matched.items a.machine a.ahead };
+    ghost invariant = { λ a. RaftInvariant M.spec a.me a.size a.term a.log.base a.log.entries a.role a.commit a.votes.items a.next.items a.matched.items a.machine a.projected };
 }
 
 /// A stored part that could not be started, and why: the number is past the group's size, or that
@@ -117,8 +117,8 @@ impl<M: Machine> Raft<M> {
         ensures member { OnOk result (IsGroupMember size me) }
         ensures number { IfOk result (λ r. (r.me ≡ me) × (r.size ≡ size)) }
         ensures shown { IfOk result (λ r. stored_part r ≡ stable) }
-        ensures server { IfOk result (λ r. (s : AnyRaft M.Command) → Stores M.meaning stable s →
-            Represents M.meaning r (restarted s)) }
+        ensures server { IfOk result (λ r. (s : AnyRaft M.Command) → Stores M.spec stable s →
+            Refines M.spec r (restarted s)) }
         ensures refused { IfErr result (λ e. (e.stable ≡ stable) × WhyNot size me e.refusal) }
     {
         if !is_member(size, me) {
@@ -160,17 +160,17 @@ impl<M: Machine> Raft<M> {
             votes,
             next,
             matched,
-            ahead: None,
+            projected: None,
         })
     }
 
     /// What it stores; the rest is gone.
     pub fn into_stable(self) -> Stable<M>
-        ensures stored { (s : AnyRaft M.Command) → Represents M.meaning self s →
-            Stores M.meaning result s }
+        ensures stored { (s : AnyRaft M.Command) → Refines M.spec self s →
+            Stores M.spec result s }
         ensures shown { result ≡ stored_part self }
     {
-        self.shown();
+        self.covered_is_committed();
         let Raft {
             term,
             vote,
@@ -196,7 +196,7 @@ impl<M: Machine> Raft<M> {
 
     /// What it is doing, while it is up.
     pub fn role(&self) -> Option<Role>
-        ensures value { (s : AnyRaft M.Command) → Represents M.meaning self.now s →
+        ensures value { (s : AnyRaft M.Command) → Refines M.spec self.now s →
             result ≡ role_of s.mode }
         ensures shown { result ≡ role_of self.now.server.mode }
     {
@@ -210,7 +210,7 @@ impl<M: Machine> Raft<M> {
     /// down. A server that leads or stands for election knows none, and a greater term or a restart
     /// makes it forget.
     pub fn known_leader(&self) -> Option<ServerId>
-        ensures value { (s : AnyRaft M.Command) → Represents M.meaning self.now s →
+        ensures value { (s : AnyRaft M.Command) → Refines M.spec self.now s →
             result ≡ s.known }
         ensures shown { result ≡ self.now.server.known }
     {
@@ -222,7 +222,7 @@ impl<M: Machine> Raft<M> {
 
     /// Its current term, also while it is down.
     pub fn term(&self) -> Term
-        ensures value { (s : AnyRaft M.Command) → Represents M.meaning self.now s →
+        ensures value { (s : AnyRaft M.Command) → Refines M.spec self.now s →
             result ≡ s.term }
         ensures shown { result ≡ self.now.server.term }
     {
@@ -246,7 +246,7 @@ impl<M: Machine> Raft<M> {
 
     /// The index of the last entry of its log, also while it is down; 0 where there is none.
     pub fn last(&self) -> Index
-        ensures value { (s : AnyRaft M.Command) → Represents M.meaning self.now s →
+        ensures value { (s : AnyRaft M.Command) → Refines M.spec self.now s →
             result ≡ length s.log }
         ensures shown { result ≡ length self.now.server.log }
     {
@@ -256,7 +256,7 @@ impl<M: Machine> Raft<M> {
     /// The term of the last entry of its log, also while it is down and where its snapshot covers
     /// that entry; 0 where there is none.
     pub fn last_term(&self) -> Term
-        ensures value { (s : AnyRaft M.Command) → Represents M.meaning self.now s →
+        ensures value { (s : AnyRaft M.Command) → Refines M.spec self.now s →
             result ≡ last_term s.log }
         ensures shown { result ≡ last_term self.now.server.log }
     {
@@ -266,12 +266,12 @@ impl<M: Machine> Raft<M> {
     /// The term of the entry at an index, also while it is down; none where its snapshot covers that
     /// entry, and where there is none.
     pub fn term_at(&self, index: Index) -> Option<Term>
-        ensures value { (s : AnyRaft M.Command) → Represents M.meaning self.now s →
+        ensures value { (s : AnyRaft M.Command) → Refines M.spec self.now s →
             MatchOption result (HasNoTermAt s index) (λ t. HasTermAt s index t) }
         ensures shown { let s = self.now.server in
             MatchOption result (HasNoTermAt s index) (λ t. HasTermAt s index t) }
     {
-        self.shown();
+        self.covered_is_committed();
         self.shown_term_at(index)
     }
 
@@ -287,27 +287,27 @@ impl<M: Machine> Raft<M> {
     }
 
     /// What it knows of a command by its ticket, while it is up.
-    pub fn standing(&self, ticket: Ticket) -> Option<Standing>
-        ensures value { (s : AnyRaft M.Command) → Represents M.meaning self.now s →
-            result ≡ standing_of s ticket.index ticket.term }
+    pub fn proposal_status(&self, ticket: Ticket) -> Option<ProposalStatus>
+        ensures value { (s : AnyRaft M.Command) → Refines M.spec self.now s →
+            result ≡ proposal_status_of s ticket.index ticket.term }
     {
         let applied = self.applied()?;
         if applied.get() < ticket.index.get() {
-            return Some(Standing::Open);
+            return Some(ProposalStatus::Pending);
         }
         match self.term_at(ticket.index) {
-            None => Some(Standing::Covered),
-            Some(term) if term.get() == ticket.term.get() => Some(Standing::Settled),
-            Some(_) => Some(Standing::Lost),
+            None => Some(ProposalStatus::Compacted),
+            Some(term) if term.get() == ticket.term.get() => Some(ProposalStatus::Committed),
+            Some(_) => Some(ProposalStatus::Superseded),
         }
     }
 
     /// How many entries are applied, while it is up: all that are committed.
     pub fn applied(&self) -> Option<Index>
-        ensures value { (s : AnyRaft M.Command) → Represents M.meaning self.now s →
+        ensures value { (s : AnyRaft M.Command) → Refines M.spec self.now s →
             MatchOption result (is_up s.mode ≡ false) (λ n. (is_up s.mode ≡ true)
             × (n ≡ s.commit)) }
-        ensures held { (s : AnyRaft M.Command) → Represents M.meaning self.now s →
+        ensures held { (s : AnyRaft M.Command) → Refines M.spec self.now s →
             IfSome result (λ n. n ≤ length s.log) }
         ensures shown { let s = self.now.server in
             MatchOption result (is_up s.mode ≡ false) (λ n. (is_up s.mode ≡ true)
@@ -321,12 +321,12 @@ impl<M: Machine> Raft<M> {
 
     /// The machine after the committed entries, while it is up.
     pub fn machine(&self) -> Option<&M>
-        ensures value { (s : AnyRaft M.Command) → Represents M.meaning self.now s →
+        ensures value { (s : AnyRaft M.Command) → Refines M.spec self.now s →
             MatchOption result (is_up s.mode ≡ false) (λ r. (is_up s.mode ≡ true)
-            × (r.now ≡ state_after M.meaning (take s.commit s.log))) }
+            × (r.now ≡ state_after M.spec (take s.commit s.log))) }
         ensures shown { is_some result ≡ is_up self.now.server.mode }
     {
-        self.shown();
+        self.covered_is_committed();
         self.applied_machine()
     }
 
@@ -334,7 +334,7 @@ impl<M: Machine> Raft<M> {
     fn applied_machine(&self) -> Option<&M>
         ensures state { MatchOption result (is_up self.now.server.mode ≡ false)
             (λ r. (is_up self.now.server.mode ≡ true)
-            × (r.now ≡ shown_state M.meaning self.now.base self.now.server)) }
+            × (r.now ≡ compacted_state M.spec self.now.base self.now.server)) }
         ensures up { is_some result ≡ is_up self.now.server.mode }
     {
         self.machine.as_ref()
@@ -342,7 +342,7 @@ impl<M: Machine> Raft<M> {
 
     /// Whether it is up: it has not crashed since it last started.
     pub fn is_up(&self) -> bool
-        ensures value { (s : AnyRaft M.Command) → Represents M.meaning self.now s →
+        ensures value { (s : AnyRaft M.Command) → Refines M.spec self.now s →
             result ≡ is_up s.mode }
         ensures shown { result ≡ is_up self.now.server.mode }
     {
@@ -354,7 +354,7 @@ impl<M: Machine> Raft<M> {
 
     /// Its term while it leads.
     pub fn leader_term(&self) -> Option<LeaderTerm>
-        ensures value { (s : AnyRaft M.Command) → Represents M.meaning self.now s →
+        ensures value { (s : AnyRaft M.Command) → Refines M.spec self.now s →
             MatchOption result (is_leader s.mode ≡ false) (λ n. (is_leader s.mode ≡ true)
             × (n ≡ s.term)) }
         ensures shown { let s = self.now.server in
@@ -380,8 +380,8 @@ impl<M: Machine> Raft<M> {
     /// It stops: what it does not store is lost. One that is down stays so. It takes no memory.
     pub fn crash(&mut self)
         ensures same { SameNumber self.old self.new }
-        ensures crashed { (s : AnyRaft M.Command) → Represents M.meaning self.old s →
-            Represents M.meaning self.new (crashed s) }
+        ensures crashed { (s : AnyRaft M.Command) → Refines M.spec self.old s →
+            Refines M.spec self.new (crashed s) }
         ensures shown { IsCrashOf self.old self.new }
     {
         self.go_down();
@@ -392,7 +392,7 @@ impl<M: Machine> Raft<M> {
         ensures idle { is_up self.old.server.mode ≡ false → self.new ≡ self.old }
     {
         forget(&mut self.machine);
-        forget(&mut self.ahead);
+        forget(&mut self.projected);
     }
 
     /// It starts again: a follower that knows no leader, with what its snapshot covers applied.
@@ -404,7 +404,7 @@ impl<M: Machine> Raft<M> {
     {
         let machine = self.log.state().fork()?;
         self.role = Role::Follower;
-        self.ahead = None;
+        self.projected = None;
         self.commit = self.log.covered();
         self.known = None;
         self.matched.fill(0);
@@ -414,8 +414,8 @@ impl<M: Machine> Raft<M> {
 
     /// What its snapshot covers is committed, and it shows no entry of that: so much is known of
     /// each server.
-    pub fn shown(&self)
-        ensures { IsShown self.now.base self.now.server }
+    pub fn covered_is_committed(&self)
+        ensures { IsCompacted self.now.base self.now.server }
     {
         let _ = self.log.covered();
     }
@@ -428,47 +428,47 @@ impl<M: Machine> Raft<M> {
     }
 
     /// A greater term makes the server a follower of that term, without a vote or a known leader.
-    fn meet(&mut self, term: Term)
+    fn observe_term(&mut self, term: Term)
         requires { is_up self.old.server.mode ≡ true }
-        ensures { self.new ≡ with_server self.old (met term self.old.server) }
+        ensures { self.new ≡ with_server self.old (term_observed term self.old.server) }
     {
         if self.term.get() < term.get() {
             self.term = term;
             self.vote = None;
             self.known = None;
             self.role = Role::Follower;
-            forget(&mut self.ahead);
+            forget(&mut self.projected);
         }
     }
 
     /// One input is taken. After want of memory what is stored is as it was, and frames may stand
     /// behind those that were there.
     #[tactic(auto, using(crate::proofs::Keeps::kept_by_view))]
-    fn take<W: Watch<M>>(
+    fn try_step<W: Watch<M>>(
         &mut self,
         input: Input,
         outbox: &mut Frames,
         watch: &mut W,
     ) -> Result<(), Refusal>
         ensures same { SameNumber self.old self.new }
-        ensures taken { OnOk result (MovesBy M.meaning self.old (handed input.entry)
+        ensures taken { OnOk result (MovesBy M.spec self.old (handed input.entry)
             self.new outbox.old outbox.new) }
         ensures admitted { OnOk result (
-            refusal M.meaning self.old.size self.old.me self.old.server (handed input.entry) ≡ None) }
-        ensures read { OnOk result (IsReadIn M.meaning (handed input.entry)) }
-        ensures kept { OnOk result (KeepsAhead self.old self.new) }
+            refusal M.spec self.old.size self.old.me self.old.server (handed input.entry) ≡ None) }
+        ensures read { OnOk result (IsReadIn M.spec (handed input.entry)) }
+        ensures kept { OnOk result (KeepsProjected self.old self.new) }
         ensures stopped { IfErr result (λ cause.
-            EndsRefused M.meaning self.old (handed input.entry) cause self.new outbox.old outbox.new) }
-        ensures unhidden { IfErr result (λ cause. HidesNothing M.meaning self.old.size self.old.me
+            EndsRefused M.spec self.old (handed input.entry) cause self.new outbox.old outbox.new) }
+        ensures unhidden { IfErr result (λ cause. HidesNothing M.spec self.old.size self.old.me
             self.old.server (handed input.entry) cause) }
         ensures led { OnOk result (is_leader self.new.server.mode ≡ true →
             self.new.base.index ≤ self.old.server.commit) }
-        ensures seen { OnOk result (ShowsStep M.meaning W.sees self.old.base self.old.server
+        ensures seen { OnOk result (ShowsStep M.spec W.sees self.old.base self.old.server
             self.new.server watch.old watch.new) }
         ensures unseen { IfErr result (λ cause. RefusalShows cause watch.old watch.new) }
     {
         let is_up = self.is_up();
-        self.shown();
+        self.covered_is_committed();
         match input {
             Input::Restart => {
                 if is_up {
@@ -508,7 +508,7 @@ impl<M: Machine> Raft<M> {
                 if !is_up {
                     return Err(Refusal::Down);
                 }
-                self.take_frame(bytes, outbox, watch)
+                self.handle_frame(bytes, outbox, watch)
             }
         }
     }
@@ -526,21 +526,21 @@ impl<M: Machine> Raft<M> {
     /// log.
     pub fn step(&mut self, input: Input, outbox: &mut Frames) -> Result<(), Refusal>
         ensures same { SameNumber self.old self.new }
-        ensures taken { OnOk result ((s : AnyRaft M.Command) → Represents M.meaning self.old s →
-            Takes M.meaning self.old s (handed input.entry) self.new outbox.old outbox.new) }
-        ensures admitted { OnOk result ((s : AnyRaft M.Command) → Represents M.meaning self.old s →
-            refusal M.meaning self.old.size self.old.me s (handed input.entry) ≡ None) }
-        ensures kept { OnOk result (KeepsAhead self.old self.new) }
+        ensures taken { OnOk result ((s : AnyRaft M.Command) → Refines M.spec self.old s →
+            Takes M.spec self.old s (handed input.entry) self.new outbox.old outbox.new) }
+        ensures admitted { OnOk result ((s : AnyRaft M.Command) → Refines M.spec self.old s →
+            refusal M.spec self.old.size self.old.me s (handed input.entry) ≡ None) }
+        ensures kept { OnOk result (KeepsProjected self.old self.new) }
         ensures keeps { OnOk result (MayKeepLog (handed input.entry) self.old self.new) }
         ensures refused { IfErr result (λ cause. (s : AnyRaft M.Command) →
-            Represents M.meaning self.old s →
-            IsRefused M.meaning self.old.size self.old.me s (handed input.entry) cause) }
+            Refines M.spec self.old s →
+            IsRefused M.spec self.old.size self.old.me s (handed input.entry) cause) }
         ensures unhidden { IfErr result (λ cause. (s : AnyRaft M.Command) →
-            Represents M.meaning self.old s →
-            HidesNothing M.meaning self.old.size self.old.me s (handed input.entry) cause) }
+            Refines M.spec self.old s →
+            HidesNothing M.spec self.old.size self.old.me s (handed input.entry) cause) }
         ensures left { IfErr result (λ cause. (s : AnyRaft M.Command) →
-            Represents M.meaning self.old s →
-            RefusalLeaves M.meaning self.old s (handed input.entry) cause self.new) }
+            Refines M.spec self.old s →
+            RefusalLeaves M.spec self.old s (handed input.entry) cause self.new) }
         ensures stays { IfErr result (λ cause.
             Stays (handed input.entry) cause self.old self.new) }
         ensures unsent { OnErr result (outbox.new ≡ outbox.old) }
@@ -559,35 +559,35 @@ impl<M: Machine> Raft<M> {
         watch: &mut W,
     ) -> Result<(), Refusal>
         ensures same { SameNumber self.old self.new }
-        ensures taken { OnOk result ((s : AnyRaft M.Command) → Represents M.meaning self.old s →
-            Takes M.meaning self.old s (handed input.entry) self.new outbox.old outbox.new) }
-        ensures admitted { OnOk result ((s : AnyRaft M.Command) → Represents M.meaning self.old s →
-            refusal M.meaning self.old.size self.old.me s (handed input.entry) ≡ None) }
-        ensures kept { OnOk result (KeepsAhead self.old self.new) }
+        ensures taken { OnOk result ((s : AnyRaft M.Command) → Refines M.spec self.old s →
+            Takes M.spec self.old s (handed input.entry) self.new outbox.old outbox.new) }
+        ensures admitted { OnOk result ((s : AnyRaft M.Command) → Refines M.spec self.old s →
+            refusal M.spec self.old.size self.old.me s (handed input.entry) ≡ None) }
+        ensures kept { OnOk result (KeepsProjected self.old self.new) }
         ensures keeps { OnOk result (MayKeepLog (handed input.entry) self.old self.new) }
         ensures refused { IfErr result (λ cause. (s : AnyRaft M.Command) →
-            Represents M.meaning self.old s →
-            IsRefused M.meaning self.old.size self.old.me s (handed input.entry) cause) }
+            Refines M.spec self.old s →
+            IsRefused M.spec self.old.size self.old.me s (handed input.entry) cause) }
         ensures unhidden { IfErr result (λ cause. (s : AnyRaft M.Command) →
-            Represents M.meaning self.old s →
-            HidesNothing M.meaning self.old.size self.old.me s (handed input.entry) cause) }
+            Refines M.spec self.old s →
+            HidesNothing M.spec self.old.size self.old.me s (handed input.entry) cause) }
         ensures left { IfErr result (λ cause. (s : AnyRaft M.Command) →
-            Represents M.meaning self.old s →
-            RefusalLeaves M.meaning self.old s (handed input.entry) cause self.new) }
+            Refines M.spec self.old s →
+            RefusalLeaves M.spec self.old s (handed input.entry) cause self.new) }
         ensures stays { IfErr result (λ cause.
             Stays (handed input.entry) cause self.old self.new) }
         ensures unsent { OnErr result (outbox.new ≡ outbox.old) }
         ensures seen { OnOk result ((s next : AnyRaft M.Command) →
-            Represents M.meaning self.old s → Represents M.meaning self.new next →
-            SeesStep M.meaning W.sees s next watch.old watch.new) }
+            Refines M.spec self.old s → Refines M.spec self.new next →
+            SeesStep M.spec W.sees s next watch.old watch.new) }
         ensures unseen { IfErr result (λ cause. RefusalShows cause watch.old watch.new) }
     {
         let before = outbox.len();
-        self.shown();
+        self.covered_is_committed();
         self.committed();
-        match self.take(input, outbox, watch) {
+        match self.try_step(input, outbox, watch) {
             Ok(()) => {
-                self.shown();
+                self.covered_is_committed();
                 Ok(())
             }
             Err(cause) => match cause {

@@ -20,8 +20,8 @@ pub fn send<M: Machine>(
     requires other { from ≢ to }
     requires log { is_of_log (kind_of body) ≡ true }
     requires plain { is_install body ≡ false }
-    ensures ok { OnOk result (IfSome (log_message M.meaning from to body) (λ message.
-        Sends M.meaning outbox.old outbox.new (message ∷ []))) }
+    ensures ok { OnOk result (IfSome (log_message M.spec from to body) (λ message.
+        Sends M.spec outbox.old outbox.new (message ∷ []))) }
     ensures front { KeepsFront outbox.old outbox.new }
     ensures err { OnErr result (outbox.new ≡ outbox.old) }
 {
@@ -37,8 +37,8 @@ pub fn answer<M: Machine>(
     reply: &AppendReply,
 ) -> Result<(), NoMemory>
     requires other { from ≢ to }
-    ensures ok { OnOk result (IfSome (log_message M.meaning from to (bodies.AppendReply reply.now)) (λ message.
-        Sends M.meaning outbox.old outbox.new (message ∷ []))) }
+    ensures ok { OnOk result (IfSome (log_message M.spec from to (bodies.AppendReply reply.now)) (λ message.
+        Sends M.spec outbox.old outbox.new (message ∷ []))) }
     ensures front { KeepsFront outbox.old outbox.new }
     ensures err { OnErr result (outbox.new ≡ outbox.old) }
 {

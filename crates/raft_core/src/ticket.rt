@@ -12,16 +12,16 @@ pub struct Ticket {
 
 /// What a server that is up knows of a command, by its ticket.
 #[derive(Clone, Copy, Debug, PartialEq, Eq)]
-pub enum Standing {
+pub enum ProposalStatus {
     /// The server has not applied that index: the command may still come to be applied, or be lost.
-    Open,
+    Pending,
     /// The server has applied the entry of that index, and it is of the ticket's term: it is the
     /// command, which stands there for good.
-    Settled,
+    Committed,
     /// The server has applied the entry of that index, and it is of another term, for good: the
     /// command was lost, and whoever wants it has to propose it again.
-    Lost,
+    Superseded,
     /// The server has applied the entry of that index, but its snapshot covers it: its term is not
     /// known here. Another server may still know it.
-    Covered,
+    Compacted,
 }

@@ -2,15 +2,15 @@
 -- kinds.
 use Rattle.std.proofs.Common.{◌≡◌, ℕ, inl, inr, Bool, true, false, ◌&&◌, ◌==◌, nat_lt, nat_le, Option, Some, None, Ok, List, length, refl, ap, subst, sym, ◌∙◌, slice_set}
 use Rattle.rows.specs.declared.refusal.Refusal.{Refusal}
-use Rattle.machine_model.specs.Meaning.{Meaning}
+use Rattle.machine_model.specs.MachineSpec.{MachineSpec}
 use Rattle.raft_model.specs.Logs.{MAX}
 use Rattle.raft_model.specs.Quorums.{is_quorum, marked}
 use Rattle.raft_model.specs.Messages.{Body, VoteRequest, VoteReply, Append, AppendReply, Install, InstallReply}
-use Rattle.raft_model.specs.Rafts.{Raft, RaftTurn, Mode, Down, Follower, Candidate, Leader, is_up, is_leader, silent, met, grants, counted, is_held, won, is_chosen, greatest, advanced_in, hears_ok, hears_refusal, extended}
+use Rattle.raft_model.specs.Rafts.{Raft, RaftTurn, Mode, Down, Follower, Candidate, Leader, is_up, is_leader, silent, term_observed, grants, counted, is_held, won, is_chosen, greatest, advanced_in, after_append_ok, after_append_refusal, extended}
 use Rattle.raft_model.specs.Steps.{Input, Arrives, Timeout, Beat, Propose, Compact, Crash, Restart, receives, times_out, proposes, acts, wakes, step, admission_refusal, unless}
 use Rattle.raft_model.proofs.Cases.{bool_cases, same_ok}
 
-module _ {S C : Type 0} (m : Meaning S C) (n i : ℕ) where
+module _ {S C : Type 0} (m : MachineSpec S C) (n i : ℕ) where
   -- Server i was s before the input, and leads as t after it.
   pub data Leading (s : Raft C) (input : Input C) (t : Raft C) : Type 0 where
     -- it goes on as it was
@@ -23,7 +23,7 @@ module _ {S C : Type 0} (m : Meaning S C) (n i : ℕ) where
     -- it was a candidate, and a vote won
     wins : (votes : List Bool) → s.mode ≡ Candidate votes → t ≡ won m.noop n s → Leading s input t
 
-module _ {S C : Type 0} (m : Meaning S C) (n i : ℕ) (s : Raft C) (input : Input C) where
+module _ {S C : Type 0} (m : MachineSpec S C) (n i : ℕ) (s : Raft C) (input : Input C) where
   -- if it leads, it came to it so
   LeadingIn : Raft C → Type 0
   LeadingIn t = is_leader t.mode ≡ true → Leading m n i s input t
@@ -96,7 +96,7 @@ module _ {S C : Type 0} (m : Meaning S C) (n i : ℕ) (s : Raft C) (input : Inpu
   advance_leads (Leader next match) e = λ l. hears s next match (ap is_leader e) e refl refl refl refl
 
   -- an ok
-  ok_leads : (from at : ℕ) (mode : Mode) → s.mode ≡ mode → LeadingIn (hears_ok n i s from at mode)
+  ok_leads : (from at : ℕ) (mode : Mode) → s.mode ≡ mode → LeadingIn (after_append_ok n i s from at mode)
   unfolding LeadingIn
   ok_leads from at Down e = same
   ok_leads from at Follower e = same
@@ -107,7 +107,7 @@ module _ {S C : Type 0} (m : Meaning S C) (n i : ℕ) (s : Raft C) (input : Inpu
   ]
 
   -- a refusal
-  refusal_leads : (from at : ℕ) (mode : Mode) → s.mode ≡ mode → LeadingIn (hears_refusal n i s from at mode)
+  refusal_leads : (from at : ℕ) (mode : Mode) → s.mode ≡ mode → LeadingIn (after_append_refusal n i s from at mode)
   unfolding LeadingIn
   refusal_leads from at Down e = same
   refusal_leads from at Follower e = same
@@ -134,15 +134,15 @@ module _ {S C : Type 0} (m : Meaning S C) (n i : ℕ) (s : Raft C) (input : Inpu
   ]
 
 -- a follower that takes a message does not lead
-followers_follow : {S C : Type 0} (m : Meaning S C) (n i : ℕ) (s : Raft C) (input : Input C) (t : Raft C) → s.mode ≡ Follower → is_leader t.mode ≡ true → Leading m n i s input t → ⊥
+followers_follow : {S C : Type 0} (m : MachineSpec S C) (n i : ℕ) (s : Raft C) (input : Input C) (t : Raft C) → s.mode ≡ Follower → is_leader t.mode ≡ true → Leading m n i s input t → ⊥
 followers_follow m n i s input t e l (goes_on mode term log commit) = let q = ap is_leader (mode ∙ e) in cc
 followers_follow m n i s input t e l (hears r next match leads mode term log commit is) = let q = ap is_leader e in cc
 followers_follow m n i s input t e l (appends command leads its is) = let q = ap is_leader e in cc
 followers_follow m n i s input t e l (wins votes mode is) = let q : Follower ≡ Candidate votes = sym e ∙ mode in cc
 
-module _ {S C : Type 0} (m : Meaning S C) (n i : ℕ) (s : Raft C) where
+module _ {S C : Type 0} (m : MachineSpec S C) (n i : ℕ) (s : Raft C) where
   -- also one of a greater term
-  met_leads : (from term : ℕ) (body : Body C) (input : Input C) → LeadingIn m n i s input (receives m.noop n i (met term s) from term body).server
+  met_leads : (from term : ℕ) (body : Body C) (input : Input C) → LeadingIn m n i s input (receives m.noop n i (term_observed term s) from term body).server
   unfolding LeadingIn
   met_leads from term body input = elim (bool_cases (nat_lt s.term term)) [
     | inl e ↦ rw e (λ l. let r : Raft C = record s { term = term; vote = None; known = None; mode = Follower } in

@@ -1,7 +1,7 @@
 -- Logs: lists of entries. Indexes begin at 1; an empty log ends at index 0 with term 0. (Raft,
 -- extended version 2014, Figure 2.)
 use Rattle.std.specs.Prelude.{ℕ, zero, suc, ◌-◌, ◌^◌, List, [], ◌∷◌, ◌++◌, length, take, drop, Bool, ◌&&◌, ◌||◌, nat_le, ◌==◌, if◌then◌else◌}
-use Rattle.machine_model.specs.Meaning.{Meaning}
+use Rattle.machine_model.specs.MachineSpec.{MachineSpec}
 use Rattle.machine_model.specs.After.{after}
 use Rattle.machine_model.specs.declared.entry.Entry.{Entry}
 
@@ -44,5 +44,5 @@ commands [] = []
 commands (e ∷ log) = e.command ∷ commands log
 
 -- the machine's state after the whole log
-abbrev pub state_after : {S C : Type 0} → Meaning S C → List (Entry C) → S
+abbrev pub state_after : {S C : Type 0} → MachineSpec S C → List (Entry C) → S
 state_after m log = after m (commands log)

@@ -62,13 +62,13 @@ reply me s to body = record { server = s; sent = record { from = me; to = to; te
 
 -- A greater term makes the receiver a follower of that term, without a vote or a known leader.
 -- (Figure 2, all servers.)
-abbrev pub met : {C : Type 0} → ℕ → Raft C → Raft C
-met term s = if nat_lt s.term term then record s { term = term; vote = None; known = None; mode = Follower } else s
+abbrev pub term_observed : {C : Type 0} → ℕ → Raft C → Raft C
+term_observed term s = if nat_lt s.term term then record s { term = term; vote = None; known = None; mode = Follower } else s
 
 -- Timeout: the server stands in the next term, with its own vote, and knows no leader. (Figure 2,
 -- candidates; section 5.2.)
-abbrev pub stood : {C : Type 0} → ℕ → ℕ → Raft C → Raft C
-stood n me s = record s { term = suc s.term; vote = Some me; known = None; mode = Candidate (slice_set (replicate n false) me true) }
+abbrev pub election_started : {C : Type 0} → ℕ → ℕ → Raft C → Raft C
+election_started n me s = record s { term = suc s.term; vote = Some me; known = None; mode = Candidate (slice_set (replicate n false) me true) }
 
 -- What it asks each other server: its vote, for a log that ends so.
 abbrev pub vote_request_to : {C : Type 0} → ℕ → Raft C → ℕ → Message C
@@ -185,18 +185,18 @@ abbrev pub advanced : {C : Type 0} → ℕ → ℕ → Raft C → Raft C
 advanced n me s = advanced_in n me s s.mode
 
 -- an ok counts for a leader alone, and commit rises after it
-abbrev pub hears_ok : {C : Type 0} → ℕ → ℕ → Raft C → ℕ → ℕ → Mode → Raft C
-hears_ok n me s j at Down = s
-hears_ok n me s j at Follower = s
-hears_ok n me s j at (Candidate votes) = s
-hears_ok n me s j at (Leader next match) = advanced n me (match_raised s j at next match)
+abbrev pub after_append_ok : {C : Type 0} → ℕ → ℕ → Raft C → ℕ → ℕ → Mode → Raft C
+after_append_ok n me s j at Down = s
+after_append_ok n me s j at Follower = s
+after_append_ok n me s j at (Candidate votes) = s
+after_append_ok n me s j at (Leader next match) = advanced n me (match_raised s j at next match)
 
 -- so does a refusal
-abbrev pub hears_refusal : {C : Type 0} → ℕ → ℕ → Raft C → ℕ → ℕ → Mode → Raft C
-hears_refusal n me s j at Down = s
-hears_refusal n me s j at Follower = s
-hears_refusal n me s j at (Candidate votes) = s
-hears_refusal n me s j at (Leader next match) = advanced n me (backed_off s j at next match)
+abbrev pub after_append_refusal : {C : Type 0} → ℕ → ℕ → Raft C → ℕ → ℕ → Mode → Raft C
+after_append_refusal n me s j at Down = s
+after_append_refusal n me s j at Follower = s
+after_append_refusal n me s j at (Candidate votes) = s
+after_append_refusal n me s j at (Leader next match) = advanced n me (backed_off s j at next match)
 
 -- Beat: what a leader sends to a server whose next index is `next`: all that its snapshot covers,
 -- where next is at or below that, else at most 32 entries from next on. (Figure 2, leaders; section

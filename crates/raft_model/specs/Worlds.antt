@@ -3,7 +3,7 @@
 use Rattle.std.specs.Prelude.{◌≡◌, ℕ, ◌⊎◌, Option, Some, None, Result, Ok, Err, List, [], ◌∷◌, ◌++◌, length, replicate, slice_get, slice_set}
 use Rattle.rows.specs.declared.refusal.Refusal.{Refusal}
 use Rattle.rows.specs.declared.refusal.Refusal.TheVariants as refusals
-use Rattle.machine_model.specs.Meaning.{Meaning, IsCommandOf}
+use Rattle.machine_model.specs.MachineSpec.{MachineSpec, IsCommandOf}
 use Rattle.raft_model.specs.Messages.{Message}
 use Rattle.raft_model.specs.Rafts.{Raft, Leader, RaftTurn, newcomer}
 use Rattle.raft_model.specs.Steps.{Input, Arrives, Timeout, Beat, Propose, Compact, Crash, Restart, step}
@@ -35,7 +35,7 @@ pub data Outcome : Type 0 where
   Crashed : Outcome
   LeftOut : (refusal : Refusal) → Outcome
 
-module _ {S C : Type 0} (m : Meaning S C) where
+module _ {S C : Type 0} (m : MachineSpec S C) where
   -- the world after a server's turn: that server alone changed, and what it sent was added
   abbrev pub after_turn : World C → ℕ → Result (RaftTurn C) Refusal → Result (World C) Refusal
   after_turn w i (Ok turn) = Ok (record { servers = slice_set w.servers i turn.server; sent = w.sent ++ turn.sent })

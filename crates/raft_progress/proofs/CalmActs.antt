@@ -3,12 +3,12 @@ use Rattle.std.proofs.Common.{◌≡◌, ℕ, zero, suc, ◌+◌, ◌-◌, ◌�
 use Rattle.std.proofs.lemmas.Bool.{ltb-true, ltb-false}
 use Rattle.std.proofs.lemmas.Bool.Decides.{leb_tells}
 use Rattle.rows.specs.declared.refusal.Refusal.{Refusal}
-use Rattle.machine_model.specs.Meaning.{Meaning}
+use Rattle.machine_model.specs.MachineSpec.{MachineSpec}
 use Rattle.machine_model.specs.declared.entry.Entry.{Entry}
 use Rattle.raft_model.specs.Logs.{MAX, term_at, last_term}
 use Rattle.raft_model.specs.Quorums.{is_quorum, marked, index_at}
 use Rattle.raft_model.specs.Messages.{Message, Body, VoteRequest, VoteReply, Append, AppendReply, Install, InstallReply}
-use Rattle.raft_model.specs.Rafts.{Raft, RaftTurn, Mode, Down, Follower, Candidate, Leader, is_up, is_leader, silent, met, stood, vote_request_to, counted, advanced_in, hears_ok, hears_refusal, beats, beat_body, beat_message, compacted, extended}
+use Rattle.raft_model.specs.Rafts.{Raft, RaftTurn, Mode, Down, Follower, Candidate, Leader, is_up, is_leader, silent, term_observed, election_started, vote_request_to, counted, advanced_in, after_append_ok, after_append_refusal, beats, beat_body, beat_message, compacted, extended}
 use Rattle.raft_model.specs.Steps.{Timeout, Propose, receives, step, admission_refusal, unless}
 use Rattle.raft_model.proofs.Cases.{bool_cases, same_ok}
 use Rattle.raft_safety.specs.Claims.{Limits}
@@ -57,7 +57,7 @@ pub record Acts {C : Type 0} (i : ℕ) (me : Raft C) (turn : RaftTurn C) : Type 
   pub stands : turn.server.term ≡ me.term → IsStanding me.mode → IsStanding turn.server.mode
   pub says : (p : ℕ) (y : Message C) → slice_get turn.sent p ≡ Some y → (y.from ≡ i) × (y.term ≡ turn.server.term) × Carries y.body turn.server.log
 
-module _ {S C : Type 0} (m : Meaning S C) (n i : ℕ) where
+module _ {S C : Type 0} (m : MachineSpec S C) (n i : ℕ) where
   -- from the server that a reply finds to the server after it
   record Onto (r t : Raft C) : Type 0 where
     log : (t.log ≡ r.log) ⊎ ((e : Entry C) × (t.log ≡ r.log ++ e ∷ []) × (e.term ≡ r.term))
@@ -88,7 +88,7 @@ module _ {S C : Type 0} (m : Meaning S C) (n i : ℕ) where
     advanced_onto (Candidate votes) e = onto_self r
     advanced_onto (Leader next match) e = record { log = inl refl; term = refl; up = λ h. h; stands = λ h. h }
 
-    ok_onto : (at : ℕ) (mode : Mode) → r.mode ≡ mode → Onto r (hears_ok n i r k at mode)
+    ok_onto : (at : ℕ) (mode : Mode) → r.mode ≡ mode → Onto r (after_append_ok n i r k at mode)
     ok_onto at Down e = onto_self r
     ok_onto at Follower e = onto_self r
     ok_onto at (Candidate votes) e = onto_self r
@@ -97,7 +97,7 @@ module _ {S C : Type 0} (m : Meaning S C) (n i : ℕ) where
       | inr b ↦ rw b (advanced_onto r.mode refl)
     ]
 
-    refusal_onto : (at : ℕ) (mode : Mode) → r.mode ≡ mode → Onto r (hears_refusal n i r k at mode)
+    refusal_onto : (at : ℕ) (mode : Mode) → r.mode ≡ mode → Onto r (after_append_refusal n i r k at mode)
     refusal_onto at Down e = onto_self r
     refusal_onto at Follower e = onto_self r
     refusal_onto at (Candidate votes) e = onto_self r
@@ -126,13 +126,13 @@ module _ {S C : Type 0} (m : Meaning S C) (n i : ℕ) where
     silent_says t out o p y h = absurd (let q = subst (λ l. slice_get l p ≡ Some y) o h in cc)
 
     -- a reply
-    pub acts_reply : (k term : ℕ) (body : Body C) → IsReply body → let turn = receives m.noop n i (met term me) k term body in Acts i me turn × (turn.server.term ≡ max me.term term)
+    pub acts_reply : (k term : ℕ) (body : Body C) → IsReply body → let turn = receives m.noop n i (term_observed term me) k term body in Acts i me turn × (turn.server.term ≡ max me.term term)
     acts_reply k term body answer =
-        let r = met term me in
+        let r = term_observed term me in
         let o = reply_onto r k term body answer in
-        let t = (receives m.noop n i (met term me) k term body).server in
-        let its : (met term me).term ≡ max me.term term = elim (bool_cases (nat_lt me.term term)) [ inl b ↦ rw b (omega (arith, ltb-true me.term term b)) | inr b ↦ rw b (omega (arith, ltb-false me.term term b)) ] in
-        let alive : is_up (met term me).mode ≡ true = elim (bool_cases (nat_lt me.term term)) [ inl b ↦ rw b refl | inr b ↦ rw b up ] in
+        let t = (receives m.noop n i (term_observed term me) k term body).server in
+        let its : (term_observed term me).term ≡ max me.term term = elim (bool_cases (nat_lt me.term term)) [ inl b ↦ rw b (omega (arith, ltb-true me.term term b)) | inr b ↦ rw b (omega (arith, ltb-false me.term term b)) ] in
+        let alive : is_up (term_observed term me).mode ≡ true = elim (bool_cases (nat_lt me.term term)) [ inl b ↦ rw b refl | inr b ↦ rw b up ] in
         let z = o.1 in (
           record {
             up = z.up alive;
@@ -219,7 +219,7 @@ module _ {S C : Type 0} (m : Meaning S C) (n i : ℕ) where
                 up = refl;
                 log = inl refl;
                 stands = λ same role. tt;
-                says = λ p y h. let t = to_others_is i (vote_request_to i (stood n i me)) n p y h in
+                says = λ p y h. let t = to_others_is i (vote_request_to i (election_started n i me)) n p y h in
                     (ap (λ (z : Message C). z.from) t.3, ap (λ (z : Message C). z.term) t.3, subst (λ (z : Message C). Carries z.body me.log) (sym t.3) tt);
               },
               omega arith,

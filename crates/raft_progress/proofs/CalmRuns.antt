@@ -3,11 +3,11 @@ use Rattle.std.proofs.Common.{◌≡◌, ◌≢◌, ℕ, ◌<◌, ◌≤◌, ◌
 use Rattle.std.proofs.lemmas.Bool.Decides.{eqb_tells}
 use Rattle.std.proofs.lemmas.Option.{same_Some}
 use Rattle.rows.specs.declared.refusal.Refusal.{Refusal}
-use Rattle.machine_model.specs.Meaning.{Meaning, LawfulMachine}
+use Rattle.machine_model.specs.MachineSpec.{MachineSpec, LawfulMachine}
 use Rattle.machine_model.specs.declared.entry.Entry.{Entry}
 use Rattle.raft_model.specs.Logs.{last_term}
 use Rattle.raft_model.specs.Messages.{Message, Body, VoteRequest, to_others}
-use Rattle.raft_model.specs.Rafts.{Raft, RaftTurn, is_up, met, vote_request_to, stood, beat_message, beats, silent, compacted}
+use Rattle.raft_model.specs.Rafts.{Raft, RaftTurn, is_up, term_observed, vote_request_to, election_started, beat_message, beats, silent, compacted}
 use Rattle.raft_model.specs.Steps.{Input, Arrives, Timeout, Beat, Propose, Compact, Crash, Restart, receives, step}
 use Rattle.raft_model.specs.Worlds.{World, Event, Deliver, TimesOut, Beats, Proposes, Compacts, Crashes, Restarts, IsEvent, happens, takes, delivers, input_to, after_turn}
 use Rattle.raft_model.proofs.Cases.{bool_cases, same_ok}
@@ -26,7 +26,7 @@ use Rattle.raft_progress.proofs.CalmSteps.{Carries, IsReply, Free, Heeds, heeds}
 use Rattle.raft_progress.proofs.CalmActs.{ends_grow, carries_grow, Acts, acts_reply, acts_beat, acts_compact, acts_propose}
 
 -- terms never fall
-kind_term : {S C : Type 0} (m : Meaning S C) (n i : ℕ) (s t : Raft C) → Kind m n i s t → s.term ≤ t.term
+kind_term : {S C : Type 0} (m : MachineSpec S C) (n i : ℕ) (s t : Raft C) → Kind m n i s t → s.term ≤ t.term
 kind_term m n i s t (stays mode term log covered) = omega (arith, term)
 kind_term m n i s t (falls h le) = le
 kind_term m n i s t (stands_up less votes mode) = omega (arith, less)
@@ -36,7 +36,7 @@ kind_term m n i s t (appends_one next match command was mode term log covered) =
 kind_term m n i s t (hears_one next match next2 match2 was mode term log covered lists) = omega (arith, term)
 
 -- a server says only what is from it
-module _ {S C : Type 0} (m : Meaning S C) (n i : ℕ) (sent : List (Message C)) where
+module _ {S C : Type 0} (m : MachineSpec S C) (n i : ℕ) (sent : List (Message C)) where
   From : List (Message C) → Type 0
   From out = (p : ℕ) (y : Message C) → slice_get out p ≡ Some y → y.from ≡ i
 
@@ -54,7 +54,7 @@ module _ {S C : Type 0} (m : Meaning S C) (n i : ℕ) (sent : List (Message C)) 
 
   small_from : (s t : Raft C) (out : List (Message C)) → Small m n i sent s t out → From out
   small_from s t out (raises x came less e o) = from_none out o
-  small_from s t out (stands term_fits index_fits e o) = from_all out (vote_request_to i (stood n i s)) o (λ k. refl)
+  small_from s t out (stands term_fits index_fits e o) = from_all out (vote_request_to i (election_started n i s)) o (λ k. refl)
   small_from s t out (grants_vote from index its_last came free newer e o) = from_one out _ o refl
   small_from s t out (refuses from term request answer came h e o) = from_one out _ o refl
   small_from s t out (counts votes from term less came mode e o) = from_none out o
@@ -79,7 +79,7 @@ module _ {S C : Type 0} (m : Meaning S C) (n i : ℕ) (sent : List (Message C)) 
   turn_from s t out (walks up x) = path_from t out s x
   turn_from s t out (resets mode h up e o) = from_none out o
 
-module _ {S C : Type 0} (m : Meaning S C) (n : ℕ) where
+module _ {S C : Type 0} (m : MachineSpec S C) (n : ℕ) where
   -- who took an input, and what came of it
   pub record Taken (w : World C) (j : ℕ) (input : Input C) (y : World C) : Type 0 where
     pub server : Raft C
@@ -120,7 +120,7 @@ module _ {S C : Type 0} (m : Meaning S C) (n : ℕ) where
         | inr turn ↦ turn_keeps m n j x.sent (λ z. s.term ≤ z.term) (λ a z c le. let k = c.kind in omega (arith, le, kind_term m n j a z k)) b.server t b.out turn (omega (arith, ap (λ (z : Raft C). z.term) old))
       ]
 
-module _ {S C : Type 0} (m : Meaning S C) (law : LawfulMachine m) (n : ℕ) (Q : ℕ → Bool) (i : ℕ) (less_n : i < n) (member_i : Q i ≡ true) (since : ℕ) where
+module _ {S C : Type 0} (m : MachineSpec S C) (law : LawfulMachine m) (n : ℕ) (Q : ℕ → Bool) (i : ℕ) (less_n : i < n) (member_i : Q i ≡ true) (since : ℕ) where
   -- a message of a member that was sent since: server i asks, and the others answer it
   pub record Given (B : ℕ) (L : List (Entry C)) (y : Message C) : Type 0 where
     pub term : y.term ≤ B
@@ -261,9 +261,9 @@ module _ {S C : Type 0} (m : Meaning S C) (law : LawfulMachine m) (n : ℕ) (Q :
               let other : msg.to ≢ i = λ e. ok.apart (asks.0 ∙ sym e) in
               let old = v.each msg.to k.server ok.to q k.here in
               let its : Limits k.server = reached_limits m n law x v.reached msg.to k.server k.here in
-              let is : k.turn ≡ receives m.noop n msg.to (met msg.term k.server) msg.from msg.term msg.body = same_ok _ _ (sym k.step_is ∙ step_arrives m n msg.to k.server msg old.up ok.from) in
+              let is : k.turn ≡ receives m.noop n msg.to (term_observed msg.term k.server) msg.from msg.term msg.body = same_ok _ _ (sym k.step_is ∙ step_arrives m n msg.to k.server msg old.up ok.from) in
               let hd : Heeds msg.to i k.server msg.term msg.body k.turn = subst (λ t. Heeds msg.to i k.server msg.term msg.body t) (sym is)
-              (subst (λ f. Heeds msg.to i k.server msg.term msg.body (receives m.noop n msg.to (met msg.term k.server) f msg.term msg.body)) (sym asks.0)
+              (subst (λ f. Heeds msg.to i k.server msg.term msg.body (receives m.noop n msg.to (term_observed msg.term k.server) f msg.term msg.body)) (sym asks.0)
               (heeds m n msg.to i k.server old.up its.commit msg.term v.me.log msg.body asks.1)) in
               subst (λ z. Next B T x z v) (sym k.is) (record {
                 inv = inv_heeds B T x v msg.to msg.term msg.body k.server k.turn ok.to q other k.here g.term (omega (arith, g.term, fits)) asks.1 hd (subst (λ z. Reached m n z) k.is r);
@@ -273,7 +273,7 @@ module _ {S C : Type 0} (m : Meaning S C) (law : LawfulMachine m) (n : ℕ) (Q :
               let low = mine in
               next_acts (Arrives msg) y (subst (λ j. Taken m n x j (Arrives msg) y) answers.1 k) (λ turn is.
               let a = acts_reply m n i v.me low.up limits msg.from msg.term msg.body answers.2 in
-              let e : receives m.noop n i (met msg.term v.me) msg.from msg.term msg.body ≡ turn = same_ok _ _ (sym (step_arrives m n i v.me msg low.up ok.from) ∙ is) in
+              let e : receives m.noop n i (term_observed msg.term v.me) msg.from msg.term msg.body ≡ turn = same_ok _ _ (sym (step_arrives m n i v.me msg low.up ok.from) ∙ is) in
               subst (λ t. Acts i v.me t × (t.server.term ≤ B)) e (a.0, omega (arith, a.1, low.low, g.term))) r
         ]
 

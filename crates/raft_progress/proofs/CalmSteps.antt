@@ -3,11 +3,11 @@ use Rattle.std.proofs.Common.{◌≡◌, ℕ, zero, suc, ◌+◌, ◌<◌, ◌�
 use Rattle.std.proofs.lemmas.Bool.{ltb-true, ltb-false, leb-true, eq-eqb, and_parts}
 use Rattle.std.proofs.lemmas.Bool.Decides.{leb_tells}
 use Rattle.std.proofs.lemmas.List.{length-append}
-use Rattle.machine_model.specs.Meaning.{Meaning}
+use Rattle.machine_model.specs.MachineSpec.{MachineSpec}
 use Rattle.machine_model.specs.declared.entry.Entry.{Entry}
 use Rattle.raft_model.specs.Logs.{term_at, last_term, has, merge, install}
 use Rattle.raft_model.specs.Messages.{Body, VoteRequest, VoteReply, Append, AppendReply, Install, InstallReply}
-use Rattle.raft_model.specs.Rafts.{Raft, RaftTurn, is_up, is_leader, silent, reply, met, is_free_for, grants, granted, following, is_held, appended}
+use Rattle.raft_model.specs.Rafts.{Raft, RaftTurn, is_up, is_leader, silent, reply, term_observed, is_free_for, grants, granted, following, is_held, appended}
 use Rattle.raft_model.specs.Steps.{receives}
 use Rattle.raft_model.proofs.Cases.{bool_cases}
 use Rattle.raft_safety.proofs.LeaderSteps.{length_drop}
@@ -123,9 +123,9 @@ pub record Heeds {C : Type 0} (j i : ℕ) (s : Raft C) (term : ℕ) (body : Body
   pub says : (turn.sent ≡ []) ⊎ ((b : Body C) × (turn.sent ≡ record { from = j; to = i; term = turn.server.term; body = b } ∷ []) × IsReply b)
   pub free : (T : ℕ) → term ≤ T → Free i T s → Free i T turn.server
 
-module _ {S C : Type 0} (m : Meaning S C) (n j i : ℕ) (s : Raft C) (up : is_up s.mode ≡ true) (within : s.commit ≤ length s.log) (term : ℕ) where
+module _ {S C : Type 0} (m : MachineSpec S C) (n j i : ℕ) (s : Raft C) (up : is_up s.mode ≡ true) (within : s.commit ≤ length s.log) (term : ℕ) where
   r : Raft C
-  r = met term s
+  r = term_observed term s
 
   r_term : r.term ≡ max s.term term
   unfolding r
@@ -239,7 +239,7 @@ module _ {S C : Type 0} (m : Meaning S C) (n j i : ℕ) (s : Raft C) (up : is_up
         | inr z ↦ elim c [ inl less ↦ inl (omega (arith, z.1, less)) | inr q ↦ inr (z.1 ∙ q.0, omega (arith, z.0, q.1)) ]
       ]
 
-  pub heeds : (L : List (Entry C)) (body : Body C) → Carries body L → Heeds j i s term body (receives m.noop n j (met term s) i term body)
+  pub heeds : (L : List (Entry C)) (body : Body C) → Carries body L → Heeds j i s term body (receives m.noop n j (term_observed term s) i term body)
   unfolding Carries r
   heeds L (VoteRequest index its_last) c = heeds_request index its_last
   heeds L (VoteReply asked granting) c = absurd c

@@ -2,7 +2,7 @@
 -- by each event of a run.
 use Rattle.std.proofs.Common.{◌≡◌, ℕ, suc, ◌-◌, ◌<◌, ◌≤◌, ◌⊎◌, inl, inr, max, min, Bool, true, nat_le, Some, Ok, List, [], ◌∷◌, ◌++◌, length, replicate, refl, sym, ap, ◌∙◌, subst, arith, slice_get, slice_set}
 use Rattle.std.proofs.lemmas.Bool.Decides.{eqb_tells}
-use Rattle.machine_model.specs.Meaning.{Meaning}
+use Rattle.machine_model.specs.MachineSpec.{MachineSpec}
 use Rattle.raft_model.specs.Quorums.{index_at}
 use Rattle.raft_model.specs.Messages.{Message}
 use Rattle.raft_model.specs.Rafts.{Raft, Candidate, Leader, newcomer, is_chosen}
@@ -94,7 +94,7 @@ backed n next match from at g =
       },
     )
 
-module _ {S C : Type 0} (m : Meaning S C) (n i : ℕ) where
+module _ {S C : Type 0} (m : MachineSpec S C) (n i : ℕ) where
   pub data Kind (s t : Raft C) : Type 0 where
     -- neither term, role nor log
     stays : t.mode ≡ s.mode → t.term ≡ s.term → t.log ≡ s.log → (s.covered ≤ s.commit → s.covered ≤ t.covered) → Kind s t
@@ -166,13 +166,13 @@ module _ {S C : Type 0} (m : Meaning S C) (n i : ℕ) where
       turn_keeps r t out (resets mode h up e o) p = keeps r t (fallen r t _ e h (omega arith) (λ le. omega arith)) p
 
 -- server i before an event, and its turn, if it was its own
-pub record Before {S C : Type 0} (m : Meaning S C) (n : ℕ) (w : World C) (i : ℕ) (t : Raft C) : Type 0 where
+pub record Before {S C : Type 0} (m : MachineSpec S C) (n : ℕ) (w : World C) (i : ℕ) (t : Raft C) : Type 0 where
   pub server : Raft C
   pub here : slice_get w.servers i ≡ Some server
   pub out : List (Message C)
   pub turn : (t ≡ server) ⊎ Turns m n i w.sent server t out
 
-module _ {S C : Type 0} (m : Meaning S C) (n : ℕ) where
+module _ {S C : Type 0} (m : MachineSpec S C) (n : ℕ) where
   pub event_before : (w : World C) (e : Event C) (next : World C) → length w.servers ≡ n → IsEvent m e → happens m w e ≡ Ok next →
       (i : ℕ) (t : Raft C) → slice_get next.servers i ≡ Some t → Before m n w i t
   event_before w e next size is h i t here =

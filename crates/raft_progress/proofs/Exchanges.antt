@@ -1,6 +1,6 @@
 -- A leader asks a server that is not ahead of it, and the server answers.
 use Rattle.std.proofs.Common.{◌≡◌, ◌≢◌, ℕ, suc, ◌<◌, ◌≤◌, inl, inr, Bool, true, false, Some, Ok, List, [], ◌∷◌, ◌++◌, length, refl, sym, ap, ◌∙◌, arith, slice_get}
-use Rattle.machine_model.specs.Meaning.{Meaning, LawfulMachine}
+use Rattle.machine_model.specs.MachineSpec.{MachineSpec, LawfulMachine}
 use Rattle.machine_model.specs.declared.entry.Entry.{Entry}
 use Rattle.raft_model.specs.Quorums.{index_at}
 use Rattle.raft_model.specs.Messages.{Message, Body, AppendReply, to_others}
@@ -15,7 +15,7 @@ use Rattle.raft_progress.proofs.Moves.{get-behind, sent_grows, recovery_sent, ge
 use Rattle.raft_progress.proofs.Answering.{answer, answers, Heard, hears_accept, hears_refuse, beats_now}
 use Rattle.raft_progress.proofs.Leaders.{leader_facts, leader_next, leader_match, alone}
 
-module _ {S C : Type 0} (m : Meaning S C) (law : LawfulMachine m) (n : ℕ) (Q : ℕ → Bool) (i : ℕ) (less_n : i < n) (T : ℕ) (w0 : World C) where
+module _ {S C : Type 0} (m : MachineSpec S C) (law : LawfulMachine m) (n : ℕ) (Q : ℕ → Bool) (i : ℕ) (less_n : i < n) (T : ℕ) (w0 : World C) where
   -- up, and not ahead
   abbrev pub Peer : ℕ → Raft C → Type 0
   Peer j s = (is_up s.mode ≡ true) × (s.term ≤ T)

@@ -2,11 +2,11 @@
 use Rattle.std.proofs.Common.{◌≡◌, ◌≢◌, ℕ, zero, suc, ◌+◌, ◌<◌, ◌≤◌, inl, inr, max, Bool, true, false, Some, Ok, List, length, refl, sym, ap, ◌∙◌, subst, arith, slice_get, true≢false}
 use Rattle.std.proofs.lemmas.Bool.Decides.{eqb_tells, leb_tells}
 use Rattle.std.proofs.lemmas.Option.{same_Some}
-use Rattle.machine_model.specs.Meaning.{Meaning, LawfulMachine}
+use Rattle.machine_model.specs.MachineSpec.{MachineSpec, LawfulMachine}
 use Rattle.raft_model.specs.Logs.{last_term}
 use Rattle.raft_model.specs.Quorums.{Quorum}
 use Rattle.raft_model.specs.Messages.{Message, VoteRequest, VoteReply, to_others}
-use Rattle.raft_model.specs.Rafts.{Raft, RaftTurn, is_leader, is_up_to_date, met, stood, grants, vote_request_to}
+use Rattle.raft_model.specs.Rafts.{Raft, RaftTurn, is_leader, is_up_to_date, term_observed, election_started, grants, vote_request_to}
 use Rattle.raft_model.specs.Steps.{Timeout, receives}
 use Rattle.raft_model.specs.Worlds.{World, Event, Run, Deliver, TimesOut, happens, Leads}
 use Rattle.raft_model.proofs.Cases.{bool_cases}
@@ -21,7 +21,7 @@ use Rattle.raft_progress.proofs.Playing.{plays}
 use Rattle.raft_progress.proofs.CalmRuns.{Inv, Next, next_event}
 use Rattle.raft_progress.proofs.Goes.{calm_sent, calm_trans, times, timed_inv, begins, highest, Top_in, top_calm, grants_from}
 
-module _ {S C : Type 0} (m : Meaning S C) (law : LawfulMachine m) (n : ℕ) (two : 2 ≤ n) (Q : ℕ → Bool) (quorum : Quorum n Q) (i : ℕ) (less_n : i < n) (member_i : Q i ≡ true) (since B U : ℕ) (fits : B ≤ U) (T : ℕ) (L R : ℕ) (y : World C) where
+module _ {S C : Type 0} (m : MachineSpec S C) (law : LawfulMachine m) (n : ℕ) (two : 2 ≤ n) (Q : ℕ → Bool) (quorum : Quorum n Q) (i : ℕ) (less_n : i < n) (member_i : Q i ≡ true) (since B U : ℕ) (fits : B ≤ U) (T : ℕ) (L R : ℕ) (y : World C) where
   abbrev req : ℕ → Message C
   req k = record { from = i; to = k; term = T; body = VoteRequest L R }
 
@@ -53,7 +53,7 @@ module _ {S C : Type 0} (m : Meaning S C) (law : LawfulMachine m) (n : ℕ) (two
     place = g.requests k less other
 
     turn : RaftTurn C
-    turn = receives m.noop n k (met T s) i T (VoteRequest L R)
+    turn = receives m.noop n k (term_observed T s) i T (VoteRequest L R)
 
     x1 : World C
     x1 = turned m n x k turn
@@ -70,14 +70,14 @@ module _ {S C : Type 0} (m : Meaning S C) (law : LawfulMachine m) (n : ℕ) (two
     n1 = next_event m law n Q i less_n member_i since B U x g.inv fits (Deliver place.0) x1 tt calm1 h1
 
     reply : Message C
-    reply = record { from = k; to = i; term = turn.server.term; body = VoteReply T (grants (met T s) i T L R) }
+    reply = record { from = k; to = i; term = turn.server.term; body = VoteReply T (grants (term_observed T s) i T L R) }
 
     at_reply : slice_get x1.sent (length x.sent) ≡ Some reply
     unfolding x1 turn reply
     at_reply = get-last x.sent reply
 
     turn2 : RaftTurn C
-    turn2 = receives m.noop n i (met reply.term n1.inv.me) k reply.term reply.body
+    turn2 = receives m.noop n i (term_observed reply.term n1.inv.me) k reply.term reply.body
 
     x2 : World C
     x2 = turned m n x1 i turn2
@@ -192,7 +192,7 @@ module _ {S C : Type 0} (m : Meaning S C) (law : LawfulMachine m) (n : ℕ) (two
   goes_all zero k x sum g = (x, subst (λ z. Going z x) (let e : k ≡ n = omega (arith, sum) in e) g)
   goes_all (suc left) k x sum g = let one = goes_on k x g (omega (arith, sum)) in goes_all left (suc k) one.0 (omega (arith, sum)) one.1
 
-module _ {S C : Type 0} (m : Meaning S C) (law : LawfulMachine m) (n : ℕ) (events : List (Event C)) (past : List (World C)) (w : World C) (run : Run m n events past w) (two : 2 ≤ n) (Q : ℕ → Bool) (quorum : Quorum n Q) (up : AllUp n Q w)
+module _ {S C : Type 0} (m : MachineSpec S C) (law : LawfulMachine m) (n : ℕ) (events : List (Event C)) (past : List (World C)) (w : World C) (run : Run m n events past w) (two : 2 ≤ n) (Q : ℕ → Bool) (quorum : Quorum n Q) (up : AllUp n Q w)
     (i : ℕ) (less_n : i < n) (member_i : Q i ≡ true) where
   from : Reached m n w
   from = record { events = events; past = past; run = run }
@@ -201,7 +201,7 @@ module _ {S C : Type 0} (m : Meaning S C) (law : LawfulMachine m) (n : ℕ) (eve
   pub go_exists : HasBestLog n Q i w → (me : Raft C) → slice_get w.servers i ≡ Some me → is_leader me.mode ≡ false → HasRoom n Q w → (v : World C) × Go m n Q i (length w.sent) w v
   go_exists best me here not room =
       let fits = room i me less_n member_i here in
-      let c : Raft C = stood n i me in
+      let c : Raft C = election_started n i me in
       let out = to_others i (vote_request_to i c) n in
       let first : RaftTurn C = record { server = c; sent = out } in
       let y : World C = turned m n w i first in
@@ -240,7 +240,7 @@ module _ {S C : Type 0} (m : Meaning S C) (law : LawfulMachine m) (n : ℕ) (eve
   campaign_exists best level me here not room =
       let fits = room i me less_n member_i here in
       let T = suc me.term in
-      let c : Raft C = stood n i me in
+      let c : Raft C = election_started n i me in
       let out = to_others i (vote_request_to i c) n in
       let first : RaftTurn C = record { server = c; sent = out } in
       let y : World C = turned m n w i first in

@@ -3,11 +3,11 @@ use Rattle.std.proofs.Common.{◌≡◌, ◌≢◌, ℕ, suc, ◌<◌, ◌≤◌
 use Rattle.std.proofs.lemmas.Bool.Decides.{eqb_tells, leb_tells}
 use Rattle.std.proofs.lemmas.List.{length-append}
 use Rattle.std.proofs.lemmas.Option.{same_Some}
-use Rattle.machine_model.specs.Meaning.{Meaning, LawfulMachine}
+use Rattle.machine_model.specs.MachineSpec.{MachineSpec, LawfulMachine}
 use Rattle.raft_model.specs.Logs.{last_term}
 use Rattle.raft_model.specs.Quorums.{Quorum}
 use Rattle.raft_model.specs.Messages.{Message, Body, VoteRequest}
-use Rattle.raft_model.specs.Rafts.{Raft, RaftTurn, Mode, Down, Follower, Candidate, Leader, is_leader, is_up_to_date, met}
+use Rattle.raft_model.specs.Rafts.{Raft, RaftTurn, Mode, Down, Follower, Candidate, Leader, is_leader, is_up_to_date, term_observed}
 use Rattle.raft_model.specs.Steps.{Arrives, Timeout, receives, step}
 use Rattle.raft_model.specs.Worlds.{World, Event, Run, Deliver, TimesOut, IsEvent, happens, Leads}
 use Rattle.raft_model.proofs.Cases.{same_ok}
@@ -32,7 +32,7 @@ use Rattle.raft_progress.proofs.CalmSteps.{Carries, IsReply, Free, Heeds, heeds}
 use Rattle.raft_progress.proofs.CalmActs.{Acts, acts_reply, acts_timeout}
 use Rattle.raft_progress.proofs.CalmRuns.{event_term, Taken, taken, delivered, Member, Inv, inv_acts, Next, next_event, Came, calm_on_inv}
 
-module _ {S C : Type 0} (m : Meaning S C) (law : LawfulMachine m) (n : ℕ) (two : 2 ≤ n) (Q : ℕ → Bool) (quorum : Quorum n Q) (i : ℕ) (less_n : i < n) (member_i : Q i ≡ true) (since : ℕ) where
+module _ {S C : Type 0} (m : MachineSpec S C) (law : LawfulMachine m) (n : ℕ) (two : 2 ≤ n) (Q : ℕ → Bool) (quorum : Quorum n Q) (i : ℕ) (less_n : i < n) (member_i : Q i ≡ true) (since : ℕ) where
   abbrev pub Its : ℕ → ℕ → World C → Type 0
   Its B T x = Inv m law n Q i less_n member_i since B T x
 
@@ -116,7 +116,7 @@ module _ {S C : Type 0} (m : Meaning S C) (law : LawfulMachine m) (n : ℕ) (two
         let old = c2.inv.each i k2.server less_n member_i k2.here in
         let its : Limits k2.server = reached_limits m n law g.at_answer c2.inv.reached i k2.server k2.here in
         let z = acts_reply m n i k2.server old.up its k k1.turn.server.term a.0 a.2 in
-        let is : k2.turn ≡ receives m.noop n i (met k1.turn.server.term k2.server) k k1.turn.server.term a.0 = same_ok _ _ (sym k2.step_is ∙ step_arrives m n i k2.server y old.up less) in
+        let is : k2.turn ≡ receives m.noop n i (term_observed k1.turn.server.term k2.server) k k1.turn.server.term a.0 = same_ok _ _ (sym k2.step_is ∙ step_arrives m n i k2.server y old.up less) in
         let now : slice_get g.after_answer.servers i ≡ Some k2.turn.server = ap (λ (w : World C). slice_get w.servers i) k2.is ∙ turned_here m n g.at_answer i k2.turn k2.server k2.here in
         let up = calm_term g.after_answer v n2.inv.reached g.to_end i k2.turn.server me less_n now there in
         omega (arith, up, z.1, hd.term_is, ap (λ (t : RaftTurn C). t.server.term) is)
@@ -392,7 +392,7 @@ module _ {S C : Type 0} (m : Meaning S C) (law : LawfulMachine m) (n : ℕ) (two
       ] in
       (max B t.turn.server.term, record { inv = z.inv; top = omega (arith, own, heard) })
 
-module _ {S C : Type 0} (m : Meaning S C) (law : LawfulMachine m) (n : ℕ) (events : List (Event C)) (past : List (World C)) (w : World C) (run : Run m n events past w) (two : 2 ≤ n) (Q : ℕ → Bool) (quorum : Quorum n Q) (up : AllUp n Q w)
+module _ {S C : Type 0} (m : MachineSpec S C) (law : LawfulMachine m) (n : ℕ) (events : List (Event C)) (past : List (World C)) (w : World C) (run : Run m n events past w) (two : 2 ≤ n) (Q : ℕ → Bool) (quorum : Quorum n Q) (up : AllUp n Q w)
     (i : ℕ) (less_n : i < n) (member_i : Q i ≡ true) (best : HasBestLog n Q i w) where
   from : Reached m n w
   from = record { events = events; past = past; run = run }

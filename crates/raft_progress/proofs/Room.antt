@@ -2,11 +2,11 @@
 use Rattle.std.proofs.Common.{◌≡◌, ◌≢◌, ℕ, zero, suc, ◌+◌, ◌-◌, ◌<◌, ◌≤◌, inl, inr, max, Bool, true, ◌||◌, nat_le, Some, List, [], ◌∷◌, ◌++◌, length, take, drop, refl, sym, ap, subst, arith, slice_get}
 use Rattle.std.proofs.lemmas.Bool.Decides.{leb_tells, eqb_tells}
 use Rattle.std.proofs.lemmas.List.{length-append, length-take}
-use Rattle.machine_model.specs.Meaning.{Meaning}
+use Rattle.machine_model.specs.MachineSpec.{MachineSpec}
 use Rattle.machine_model.specs.declared.entry.Entry.{Entry}
 use Rattle.raft_model.specs.Logs.{MAX, has, last_term, merge, install}
 use Rattle.raft_model.specs.Messages.{Message, Body, VoteRequest, VoteReply, Append, AppendReply, Install, InstallReply, to_others}
-use Rattle.raft_model.specs.Rafts.{Raft, newcomer, is_leader, stood, vote_request_to, beat_body, beat_message, installed}
+use Rattle.raft_model.specs.Rafts.{Raft, newcomer, is_leader, election_started, vote_request_to, beat_body, beat_message, installed}
 use Rattle.raft_model.specs.Worlds.{World, Event, Run, start, more}
 use Rattle.raft_model.proofs.Cases.{bool_cases}
 use Rattle.raft_safety.specs.Inner.SmallSteps.{WasSent, LedBefore, Small, raises, stands, grants_vote, refuses, counts, wins, extends, follows, takes_append, takes_install, acks, backs, advances, covers, beats_all, OwesNothing, Path, still, only, after_one, Turns, walks, resets}
@@ -91,7 +91,7 @@ module _ {C : Type 0} where
       part (suc p) [] some = absurd (omega (arith, some))
       part (suc p) (x ∷ X) some = omega (arith, part p X some)
 
-module _ {S C : Type 0} (m : Meaning S C) (n i : ℕ) (two : 2 ≤ n) (sent : List (Message C)) (k : ℕ) (given : AllWithin k sent) where
+module _ {S C : Type 0} (m : MachineSpec S C) (n i : ℕ) (two : 2 ≤ n) (sent : List (Message C)) (k : ℕ) (given : AllWithin k sent) where
   record After (t : Raft C) (out : List (Message C)) : Type 0 where
     server : Within (suc k) t
     says : (p : ℕ) (x : Message C) → slice_get out p ≡ Some x → MessageWithin (suc k) x
@@ -133,7 +133,7 @@ module _ {S C : Type 0} (m : Meaning S C) (n i : ℕ) (two : 2 ≤ n) (sent : Li
     small_within : (t : Raft C) (out : List (Message C)) → Small m n i sent s t out → After t out
     unfolding BodyWithin
     small_within t out (raises x came less e o) = let g = given x came in quiet t _ out e o (omega (arith, g.term)) (omega (arith, w.index))
-    small_within t out (stands term_fits index_fits e o) = tells t (stood n i s) out (vote_request_to i (stood n i s)) e o (omega (arith, w.term)) (omega (arith, w.index)) (λ j. record { term = omega (arith, w.term); body = tt })
+    small_within t out (stands term_fits index_fits e o) = tells t (election_started n i s) out (vote_request_to i (election_started n i s)) e o (omega (arith, w.term)) (omega (arith, w.index)) (λ j. record { term = omega (arith, w.term); body = tt })
     small_within t out (grants_vote from index its_last came free newer e o) = answers t _ out _ e o (omega (arith, w.term)) (omega (arith, w.index)) (record { term = omega (arith, w.term); body = tt })
     small_within t out (refuses from term request answer came h e o) = answers t s out _ e o (omega (arith, w.term)) (omega (arith, w.index)) (record { term = omega (arith, w.term); body = owes_within answer h })
     small_within t out (counts votes from term less came mode e o) = quiet t _ out e o (omega (arith, w.term)) (omega (arith, w.index))
@@ -164,7 +164,7 @@ module _ {S C : Type 0} (m : Meaning S C) (n i : ℕ) (two : 2 ≤ n) (sent : Li
     silent_within t (stands term_fits index_fits e o) led = absurd (elim (eqb_tells i 0) [ inl z ↦ none 1 (omega (arith, two)) (λ q. omega (arith, q, z.1)) | inr z ↦ none 0 (omega (arith, two)) (λ q. z.1 (sym q)) ])
       where
         none : (j : ℕ) → j < n → j ≢ i → ⊥
-        none j less other = let a = to_others_has i (vote_request_to i (stood n i s)) n j less other in let q = subst (λ l. slice_get l a.0 ≡ Some (vote_request_to i (stood n i s) j)) (sym o) a.1 in cc
+        none j less other = let a = to_others_has i (vote_request_to i (election_started n i s)) n j less other in let q = subst (λ l. slice_get l a.0 ≡ Some (vote_request_to i (election_started n i s) j)) (sym o) a.1 in cc
     silent_within t (grants_vote from index its_last came free newer e o) led = absurd (cc)
     silent_within t (refuses from term request answer came h e o) led = absurd (cc)
     silent_within t (counts votes from term less came mode e o) led = subst (λ z. Within k z) (sym e) (record { term = w.term; index = w.index })
@@ -191,7 +191,7 @@ module _ {S C : Type 0} (m : Meaning S C) (n i : ℕ) (two : 2 ≤ n) (sent : Li
   turn_within s t out w (walks up p) = path_within t out s w p
   turn_within s t out w (resets mode h up e o) = quiet t _ out e o (omega (arith, w.term)) (omega (arith, w.index))
 
-module _ {S C : Type 0} (m : Meaning S C) (n : ℕ) (two : 2 ≤ n) where
+module _ {S C : Type 0} (m : MachineSpec S C) (n : ℕ) (two : 2 ≤ n) where
   record WorldWithin (k : ℕ) (w : World C) : Type 0 where
     each : (i : ℕ) (s : Raft C) → slice_get w.servers i ≡ Some s → Within k s
     given : AllWithin k w.sent

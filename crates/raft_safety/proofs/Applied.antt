@@ -2,7 +2,7 @@
 use Rattle.std.proofs.Common.{◌≡◌, ℕ, zero, suc, ◌≤◌, ◌⊎◌, inl, inr, true, false, Some, List, length, refl, sym, ap, ◌∙◌, subst, arith, slice_get, true≢false}
 use Rattle.std.proofs.lemmas.Bool.Decides.{leb_tells}
 use Rattle.std.proofs.lemmas.Option.{same_Some}
-use Rattle.machine_model.specs.Meaning.{Meaning, LawfulMachine}
+use Rattle.machine_model.specs.MachineSpec.{MachineSpec, LawfulMachine}
 use Rattle.raft_model.specs.Messages.{Message}
 use Rattle.raft_model.specs.Rafts.{Raft, is_up}
 use Rattle.raft_model.specs.Worlds.{World, Event, Run, moment}
@@ -17,12 +17,12 @@ use Rattle.raft_safety.proofs.Election.{Moves, event_moves}
 use Rattle.raft_safety.proofs.Chains.{chain}
 
 -- server i at a moment, which is t at the next one
-record Before {S C : Type 0} (m : Meaning S C) (past : List (World C)) (w : World C) (k i : ℕ) (t : Raft C) : Type 0 where
+record Before {S C : Type 0} (m : MachineSpec S C) (past : List (World C)) (w : World C) (k i : ℕ) (t : Raft C) : Type 0 where
   server : Raft C
   at : At past w k i server
   goes : (server ≡ t) ⊎ ((n : ℕ) × (sent : List (Message C)) × (out : List (Message C)) × Turns m n i sent server t out)
 
-module _ {S C : Type 0} (m : Meaning S C) (n : ℕ) (events : List (Event C)) (past : List (World C)) (w : World C) (run : Run m n events past w) where
+module _ {S C : Type 0} (m : MachineSpec S C) (n : ℕ) (events : List (Event C)) (past : List (World C)) (w : World C) (run : Run m n events past w) where
   -- an event of one server
   moved : (k i : ℕ) (x : World C) (t : Raft C) (event : Event C) (y : World C) → moment past w k ≡ Some x → slice_get y.servers i ≡ Some t → Moves m x event y → Before m past w k i t
   moved k i x t event y at here v = elim (get_set-cases x.servers v.who v.new i t (subst (λ l. slice_get l i ≡ Some t) v.servers here)) [

@@ -4,7 +4,7 @@ use Rattle.std.proofs.lemmas.Option.{same_Some}
 use Rattle.machine_model.specs.declared.entry.Entry.{Entry}
 use Rattle.raft_model.specs.Logs.{MAX}
 use Rattle.raft_model.specs.Messages.{Message, VoteReply, to_others}
-use Rattle.raft_model.specs.Rafts.{Raft, stood, vote_request_to, is_up_to_date}
+use Rattle.raft_model.specs.Rafts.{Raft, election_started, vote_request_to, is_up_to_date}
 use Rattle.raft_safety.specs.Inner.Functions.{with_both}
 use Rattle.raft_safety.specs.Inner.Agreement.{Rooted}
 use Rattle.raft_safety.specs.Inner.History.{History, CarriesHeld, Ledgers, Extends}
@@ -27,7 +27,7 @@ module _ {C : Type 0} (P : List (Entry C) → Type 0) (n : ℕ) (G : History C) 
       (λ k y q. subst (λ (z : Message C). BodyOk n G z.from z.to z.term z.body) (get-one _ k y q) (grant_ok P n G i s I ok from index its_last r newer))
 
   -- a new candidate
-  pub stand_keeps : length s.log < MAX → VotesKept n G.ballots i (stood n i s) (to_others i (vote_request_to i (stood n i s)) n) → KeepsHistory P n G i (stood n i s) (to_others i (vote_request_to i (stood n i s)) n)
+  pub stand_keeps : length s.log < MAX → VotesKept n G.ballots i (election_started n i s) (to_others i (vote_request_to i (election_started n i s)) n) → KeepsHistory P n G i (election_started n i s) (to_others i (vote_request_to i (election_started n i s)) n)
   unfolding revote ModeOk BodyOk
   stand_keeps index_left v =
       let t = suc s.term in
@@ -63,7 +63,7 @@ module _ {C : Type 0} (P : List (Entry C) → Type 0) (n : ℕ) (G : History C) 
             });
           };
         };
-        says = λ k x h. let r = to_others_is i (vote_request_to i (stood n i s)) n k x h in record {
+        says = λ k x h. let r = to_others_is i (vote_request_to i (election_started n i s)) n k x h in record {
           vote = v.says k x h;
           body = subst (λ (y : Message C). BodyOk n H y.from y.to y.term y.body) (sym r.3)
               (record { log = s.log; stood = both_same G.stood t i (Some s.log); index_is = refl; last_is = refl });

@@ -1,7 +1,7 @@
 -- The one list of a run, and what the story says of logs, states and origins.
 use Rattle.std.proofs.Common.{◌≡◌, ℕ, suc, ◌<◌, ◌≤◌, inl, inr, Some, List, [], length, take, sym, ap, ◌∙◌, subst, arith, take_all}
 use Rattle.std.proofs.lemmas.Bool.Decides.{leb_tells}
-use Rattle.machine_model.specs.Meaning.{Meaning, LawfulMachine}
+use Rattle.machine_model.specs.MachineSpec.{MachineSpec, LawfulMachine}
 use Rattle.machine_model.specs.After.{Admitted}
 use Rattle.machine_model.specs.declared.entry.Entry.{Entry}
 use Rattle.raft_model.specs.Logs.{term_at, commands, state_after}
@@ -63,7 +63,7 @@ module _ {C : Type 0} where
       Chain (take l past) x short → Agree (length short) short list
   chain_front past w list l x short a at b = chain_end (take l past) x short list b (λ k i s h. a.agrees k i s (at_front past w l x at k i s h))
 
-module _ {S C : Type 0} (m : Meaning S C) (law : LawfulMachine m) (n : ℕ) (events : List (Event C)) (past : List (World C)) (w : World C) (run : Run m n events past w) where
+module _ {S C : Type 0} (m : MachineSpec S C) (law : LawfulMachine m) (n : ℕ) (events : List (Event C)) (past : List (World C)) (w : World C) (run : Run m n events past w) where
   -- the run's story
   pub st : Story m n events past w
   st = story m law n events past w run
@@ -114,7 +114,7 @@ module _ {S C : Type 0} (m : Meaning S C) (law : LawfulMachine m) (n : ℕ) (eve
       subst (λ L. Origin m events past w L p) same (list_origin p (omega (arith, less, ap length same)))
 
 -- what holds of a server at any moment
-module _ {S C : Type 0} (m : Meaning S C) (law : LawfulMachine m) (n : ℕ) (events : List (Event C)) (past : List (World C)) (w : World C) (run : Run m n events past w)
+module _ {S C : Type 0} (m : MachineSpec S C) (law : LawfulMachine m) (n : ℕ) (events : List (Event C)) (past : List (World C)) (w : World C) (run : Run m n events past w)
     (k i : ℕ) (s : Raft C) (a : At past w k i s) where
   -- the story up to that moment
   pub at_story : Story m n (take k events) (take k past) a.world

@@ -2,7 +2,7 @@
 -- stored.
 use Rattle.std.proofs.Common.{◌≡◌, ℕ, ◌≤◌, ◌⊎◌, inl, inr, Bool, true, false, nat_le, List, [], length, sym, ap, ◌∙◌, arith, true≢false}
 use Rattle.std.proofs.lemmas.Bool.{leb-false}
-use Rattle.machine_model.specs.Meaning.{Meaning}
+use Rattle.machine_model.specs.MachineSpec.{MachineSpec}
 use Rattle.raft_model.specs.Messages.{Message}
 use Rattle.raft_model.specs.Rafts.{Raft, is_up, is_chosen, greatest}
 use Rattle.raft_model.proofs.Cases.{bool_cases}
@@ -15,7 +15,7 @@ use Rattle.raft_safety.proofs.LeaderSteps.{greatest_told}
 pub greatest_from : (test : ℕ → Bool) (low high : ℕ) → low ≤ greatest test low high
 greatest_from test low high = elim (greatest_told test low high) [ inl e ↦ omega (arith, e) | inr e ↦ omega (arith, e.0) ]
 
-module _ {S C : Type 0} (m : Meaning S C) (n i : ℕ) (sent : List (Message C)) where
+module _ {S C : Type 0} (m : MachineSpec S C) (n i : ℕ) (sent : List (Message C)) where
   -- no small step lowers commit
   small_commit : (s t : Raft C) (out : List (Message C)) → Small m n i sent s t out → s.commit ≤ t.commit
   small_commit s t out (raises x came less e o) = omega (arith, ap (λ (y : Raft C). y.commit) e)

@@ -78,7 +78,7 @@ module _ {C : Type 0} where
   -- what is fixed is in each later term's ledger
   fixed_by_in : (n : ℕ) (G : History C) (v t k : ℕ) (X : List (Entry C)) → Ledgers n G → FixedBy n G v k X → v ≤ t → 1 ≤ length (G.ledger t) → Agree k X (G.ledger t)
   fixed_by_in n G v t k X I f le some = elim (leb_tells (suc f.term) t) [
-    | inl h ↦ agree_trans f.agree (agree_less k f.reach (in_later n G t f.term f.place I f.chosen (omega (arith, h.1)) some))
+    | inl h ↦ agree_trans f.agree (agree_less k f.reach (in_later n G t f.term f.index I f.chosen (omega (arith, h.1)) some))
     | inr h ↦ let same : f.term ≡ t = omega (arith, f.early, le, h.1) in subst (λ s. Agree k X (G.ledger s)) same f.agree
   ]
 
@@ -90,7 +90,7 @@ module _ {C : Type 0} where
   -- two fixed lists, the one of the earlier term first
   ordered : (n : ℕ) (G : History C) (v w k j m : ℕ) (X Y : List (Entry C)) → Ledgers n G → (f : FixedBy n G v k X) → (g : FixedBy n G w j Y) → f.term ≤ g.term → m ≤ k → m ≤ j → Agree m X Y
   ordered n G v w k j m X Y I f g le mk mj =
-      let early : FixedBy n G f.term k X = record { term = f.term; place = f.place; early = omega arith; reach = f.reach; chosen = f.chosen; agree = f.agree } in
+      let early : FixedBy n G f.term k X = record { term = f.term; index = f.index; early = omega arith; reach = f.reach; chosen = f.chosen; agree = f.agree } in
       let some : 1 ≤ length (G.ledger g.term) = omega (arith, g.chosen.one, g.chosen.there) in
       agree_trans (agree_less m mk (fixed_by_in n G f.term g.term k X I early le some)) (agree_sym (agree_less m mj g.agree))
 

@@ -70,17 +70,17 @@ module _ {C : Type 0} where
   -- what is fixed by a term is so by a later one
   pub fixed_later : (n : ℕ) (G : History C) (v w k : ℕ) (X : List (Entry C)) → v ≤ w → Fixed n G v k X → Fixed n G w k X
   fixed_later n G v w k X le (inl z) = inl z
-  fixed_later n G v w k X le (inr f) = inr (record { term = f.term; place = f.place; early = omega (arith, f.early, le); reach = f.reach; chosen = f.chosen; agree = f.agree })
+  fixed_later n G v w k X le (inr f) = inr (record { term = f.term; index = f.index; early = omega (arith, f.early, le); reach = f.reach; chosen = f.chosen; agree = f.agree })
 
   -- and so is less of it
   pub fixed_less : (n : ℕ) (G : History C) (v k j : ℕ) (X : List (Entry C)) → j ≤ k → Fixed n G v k X → Fixed n G v j X
   fixed_less n G v k j X le (inl z) = inl (omega (arith, le, z))
-  fixed_less n G v k j X le (inr f) = inr (record { term = f.term; place = f.place; early = f.early; reach = omega (arith, f.reach, le); chosen = f.chosen; agree = agree_less j le f.agree })
+  fixed_less n G v k j X le (inr f) = inr (record { term = f.term; index = f.index; early = f.early; reach = omega (arith, f.reach, le); chosen = f.chosen; agree = agree_less j le f.agree })
 
   -- and a list with the same first part
   pub fixed_grow : (n : ℕ) (G : History C) (v k : ℕ) (X Y : List (Entry C)) → Agree k X Y → Fixed n G v k X → Fixed n G v k Y
   fixed_grow n G v k X Y a (inl z) = inl z
-  fixed_grow n G v k X Y a (inr f) = inr (record { term = f.term; place = f.place; early = f.early; reach = f.reach; chosen = f.chosen; agree = agree_trans (agree_sym a) f.agree })
+  fixed_grow n G v k X Y a (inr f) = inr (record { term = f.term; index = f.index; early = f.early; reach = f.reach; chosen = f.chosen; agree = agree_trans (agree_sym a) f.agree })
 
   -- what a voter held stays carried
   pub carried_on : (n : ℕ) (G H : History C) (t i : ℕ) (L : List (Entry C)) → Extends G H → CarriesHeld n G t i L → CarriesHeld n H t i L

@@ -60,10 +60,10 @@ module _ {C : Type 0} where
   fixed_on n G H v k X e (inl z) = inl z
   fixed_on n G H v k X e (inr f) = inr (record {
     term = f.term;
-    place = f.place;
+    index = f.index;
     early = f.early;
     reach = f.reach;
-    chosen = chosen_on n G H f.term f.place e f.chosen;
+    chosen = chosen_on n G H f.term f.index e f.chosen;
     agree = agree_sym (agree_on G H f.term k X e (agree_sym f.agree));
   })
 

@@ -82,7 +82,7 @@ module _ {C : Type 0} (P : List (Entry C) → Type 0) (n : ℕ) (G : History C) 
     within = r.1;
     fixed = inr (record {
       term = s.term;
-      place = k;
+      index = k;
       early = omega arith;
       reach = omega arith;
       chosen = chosen_at k (omega (arith, r.0)) r.1 r.2;

@@ -1,6 +1,6 @@
 -- Terms stay below 2^40, and every message goes from one server of the group to another.
 use Rattle.std.proofs.Common.{◌≡◌, ℕ, suc, ◌<◌, ◌≤◌, inl, inr, nat_le, Some, List, [], ◌∷◌, length, refl, sym, ap, ◌∙◌, subst, arith, slice_get}
-use Rattle.machine_model.specs.Meaning.{Meaning}
+use Rattle.machine_model.specs.MachineSpec.{MachineSpec}
 use Rattle.raft_model.specs.Logs.{MAX}
 use Rattle.raft_model.specs.Messages.{Message, Body, to_others}
 use Rattle.raft_model.specs.Rafts.{Raft, newcomer, installed}
@@ -16,7 +16,7 @@ record Bounded {C : Type 0} (n : ℕ) (t : Raft C) (out : List (Message C)) : Ty
   term : t.term ≤ MAX
   says : (k : ℕ) (x : Message C) → slice_get out k ≡ Some x → IsAmongMembers n x
 
-module _ {S C : Type 0} (m : Meaning S C) (n i : ℕ) (less_n : i < n) (sent : List (Message C)) (given : (x : Message C) → WasSent sent x → IsAmongMembers n x) where
+module _ {S C : Type 0} (m : MachineSpec S C) (n i : ℕ) (less_n : i < n) (sent : List (Message C)) (given : (x : Message C) → WasSent sent x → IsAmongMembers n x) where
   -- a step that sends nothing
   says_none : (t : Raft C) (out : List (Message C)) → out ≡ [] → t.term ≤ MAX → Bounded n t out
   says_none t out o le = record { term = le; says = λ k x h. absurd (let q = rw o at h in cc) }
@@ -81,7 +81,7 @@ pub record Bounds {C : Type 0} (n : ℕ) (w : World C) : Type 0 where
   pub terms : (j : ℕ) (s : Raft C) → slice_get w.servers j ≡ Some s → s.term ≤ MAX
   pub given : (x : Message C) → WasSent w.sent x → IsAmongMembers n x
 
-module _ {S C : Type 0} (m : Meaning S C) (n : ℕ) (w : World C) (event : Event C) (next : World C) (b : Bounds n w) (x : Moves m w event next) where
+module _ {S C : Type 0} (m : MachineSpec S C) (n : ℕ) (w : World C) (event : Event C) (next : World C) (b : Bounds n w) (x : Moves m w event next) where
   -- the server that took the event
   now : Bounded n x.new x.out
   now = turn_bounded m n x.who (let q = get-within w.servers x.who x.old x.here in omega (arith, q, b.size)) w.sent b.given x.old x.new x.out (b.terms x.who x.old x.here)
@@ -101,7 +101,7 @@ module _ {S C : Type 0} (m : Meaning S C) (n : ℕ) (w : World C) (event : Event
     ];
   }
 
-module _ {S C : Type 0} (m : Meaning S C) (n : ℕ) where
+module _ {S C : Type 0} (m : MachineSpec S C) (n : ℕ) where
   -- a run
   pub run_bounds : (events : List (Event C)) (past : List (World C)) (w : World C) → Run m n events past w → Bounds n w
   run_bounds events past w start = record {

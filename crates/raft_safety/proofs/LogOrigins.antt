@@ -1,6 +1,6 @@
 -- Each entry of each log was appended by a leader of its term, at an earlier moment.
 use Rattle.std.proofs.Common.{◌≡◌, ℕ, suc, ◌<◌, Some, List, take, length, sym, ap, ◌∙◌, arith, slice_get}
-use Rattle.machine_model.specs.Meaning.{Meaning, LawfulMachine}
+use Rattle.machine_model.specs.MachineSpec.{MachineSpec, LawfulMachine}
 use Rattle.raft_model.specs.Logs.{term_at}
 use Rattle.raft_model.specs.Rafts.{Raft}
 use Rattle.raft_model.specs.Worlds.{World, Event, Run, moment}
@@ -12,7 +12,7 @@ use Rattle.raft_safety.proofs.Origins.{origin_agree}
 use Rattle.raft_safety.proofs.Chains.{at_story, server_ok}
 use Rattle.raft_safety.proofs.Places.{take_below}
 
-module _ {S C : Type 0} (m : Meaning S C) (law : LawfulMachine m) (n : ℕ) (events : List (Event C)) (past : List (World C)) (w : World C) (run : Run m n events past w)
+module _ {S C : Type 0} (m : MachineSpec S C) (law : LawfulMachine m) (n : ℕ) (events : List (Event C)) (past : List (World C)) (w : World C) (run : Run m n events past w)
     (k i : ℕ) (s : Raft C) (a : At past w k i s) (p : ℕ) (less : p < length s.log) where
   pub front_origin : Origin m (take k events) (take k past) a.world s.log p
   front_origin =

@@ -1,6 +1,6 @@
 -- The numbers of servers and messages stay within their limits.
 use Rattle.std.proofs.Common.{◌≡◌, ℕ, Some, List, arith, slice_get}
-use Rattle.machine_model.specs.Meaning.{Meaning, LawfulMachine}
+use Rattle.machine_model.specs.MachineSpec.{MachineSpec, LawfulMachine}
 use Rattle.raft_model.specs.Messages.{Message}
 use Rattle.raft_model.specs.Rafts.{Raft}
 use Rattle.raft_model.specs.Worlds.{World, Event, Run}
@@ -11,7 +11,7 @@ use Rattle.raft_safety.proofs.Limits.{run_bounds}
 use Rattle.raft_safety.proofs.Sound.{sound_short}
 use Rattle.raft_safety.proofs.Chains.{server_ok, log_admitted}
 
-module _ {S C : Type 0} (m : Meaning S C) where
+module _ {S C : Type 0} (m : MachineSpec S C) where
   -- a server at any moment
   pub server_limits : LawfulMachine m → (n : ℕ) (events : List (Event C)) (past : List (World C)) (w : World C) → Run m n events past w → (k i : ℕ) (s : Raft C) → At past w k i s → Limits s
   server_limits law n events past w r k i s a =

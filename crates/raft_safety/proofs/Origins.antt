@@ -2,7 +2,7 @@
 use Rattle.std.proofs.Common.{◌≡◌, ℕ, suc, ◌<◌, inl, inr, Bool, true, Option, Some, None, List, [], ◌∷◌, ◌++◌, length, take, refl, sym, ap, ◌∙◌, subst, arith, slice_get, take_all}
 use Rattle.std.proofs.lemmas.Bool.Decides.{leb_tells}
 use Rattle.std.proofs.lemmas.Option.{same_Some}
-use Rattle.machine_model.specs.Meaning.{Meaning}
+use Rattle.machine_model.specs.MachineSpec.{MachineSpec}
 use Rattle.machine_model.specs.declared.entry.Entry.{Entry}
 use Rattle.raft_model.specs.Logs.{term_at}
 use Rattle.raft_model.specs.Rafts.{Raft, Candidate, is_leader}
@@ -20,7 +20,7 @@ use Rattle.raft_safety.proofs.WritingSteps.{agree_append}
 use Rattle.raft_safety.proofs.Election.{Moves}
 use Rattle.raft_safety.proofs.Steps.{WorldOk, WorldGoes}
 
-module _ {S C : Type 0} (m : Meaning S C) (events : List (Event C)) (past : List (World C)) (w : World C) where
+module _ {S C : Type 0} (m : MachineSpec S C) (events : List (Event C)) (past : List (World C)) (w : World C) where
   -- where a list's entries come from depends on the list up to that entry
   pub origin_agree : (A B : List (Entry C)) (p : ℕ) → Agree (suc p) A B → Origin m events past w A p → Origin m events past w B p
   origin_agree A B p a o =
@@ -67,10 +67,10 @@ module _ {S C : Type 0} (m : Meaning S C) (events : List (Event C)) (past : List
   }
 
 -- where the ledgers' own entries come from
-pub record Born {S C : Type 0} (m : Meaning S C) (events : List (Event C)) (past : List (World C)) (w : World C) (G : History C) : Type 0 where
+pub record Born {S C : Type 0} (m : MachineSpec S C) (events : List (Event C)) (past : List (World C)) (w : World C) (G : History C) : Type 0 where
   pub own : (u p : ℕ) → p < length (G.ledger u) → term_at (G.ledger u) (suc p) ≡ u → Origin m events past w (G.ledger u) p
 
-module _ {S C : Type 0} (m : Meaning S C) (n : ℕ) (events : List (Event C)) (past : List (World C)) (w : World C) (event : Event C) (next : World C) (even : length events ≡ length past)
+module _ {S C : Type 0} (m : MachineSpec S C) (n : ℕ) (events : List (Event C)) (past : List (World C)) (w : World C) (event : Event C) (next : World C) (even : length events ≡ length past)
     (G : History C) (ok : WorldOk m n G w) (x : Moves m w event next) (g : WorldGoes m n G next x.new) (born : Born m events past w G) where
   -- the server before the event
   old_ok : ServerOk n G x.who x.old

@@ -1,19 +1,19 @@
 -- Each event is a path of small steps.
 use Rattle.std.proofs.Common.{◌≡◌, ℕ, suc, ◌<◌, ◌≤◌, inl, inr, Bool, true, false, ◌&&◌, ◌==◌, nat_lt, nat_le, max, Option, Some, None, Ok, List, [], ◌∷◌, length, refl, sym, ap, ◌∙◌, subst, arith, slice_set, true≢false}
 use Rattle.std.proofs.lemmas.Bool.{and_parts, ltb-true, ltb-false, eqb-true}
-use Rattle.machine_model.specs.Meaning.{Meaning, IsCommandOf}
+use Rattle.machine_model.specs.MachineSpec.{MachineSpec, IsCommandOf}
 use Rattle.rows.specs.declared.refusal.Refusal.{Refusal}
 use Rattle.machine_model.specs.declared.entry.Entry.{Entry}
 use Rattle.raft_model.specs.Logs.{MAX}
 use Rattle.raft_model.specs.Quorums.{is_quorum, marked, index_at}
 use Rattle.raft_model.specs.Messages.{Message, Body, VoteRequest, VoteReply, Append, AppendReply, Install, InstallReply}
-use Rattle.raft_model.specs.Rafts.{Raft, RaftTurn, Mode, Down, Follower, Candidate, Leader, is_up, is_leader, silent, met, grants, is_free_for, is_up_to_date, counted, with_votes, following, is_held, installed, match_raised, advanced_in, hears_ok, hears_refusal, beats, extended}
+use Rattle.raft_model.specs.Rafts.{Raft, RaftTurn, Mode, Down, Follower, Candidate, Leader, is_up, is_leader, silent, term_observed, grants, is_free_for, is_up_to_date, counted, with_votes, following, is_held, installed, match_raised, advanced_in, after_append_ok, after_append_refusal, beats, extended}
 use Rattle.raft_model.specs.Steps.{Input, Arrives, Timeout, Beat, Propose, Compact, Crash, Restart, receives, times_out, proposes, acts, wakes, step, admission_refusal, unless}
 use Rattle.raft_model.proofs.Cases.{bool_cases, same_ok}
 use Rattle.raft_safety.specs.Inner.SmallSteps.{IsAck, WasSent, Small, raises, stands, grants_vote, refuses, counts, wins, extends, follows, takes_append, takes_install, acks, backs, advances, covers, beats_all, Path, still, only, after_one, Turns, walks, resets}
 
 -- what came to the server
-abbrev pub CameIn : {S C : Type 0} → Meaning S C → List (Message C) → ℕ → Input C → Type 0
+abbrev pub CameIn : {S C : Type 0} → MachineSpec S C → List (Message C) → ℕ → Input C → Type 0
 CameIn m sent i (Arrives message) = WasSent sent message × (message.to ≡ i)
 CameIn m sent i Timeout = Unit {0}
 CameIn m sent i Beat = Unit {0}
@@ -22,7 +22,7 @@ CameIn m sent i Compact = Unit {0}
 CameIn m sent i Crash = Unit {0}
 CameIn m sent i Restart = Unit {0}
 
-module _ {S C : Type 0} (m : Meaning S C) (n i : ℕ) (sent : List (Message C)) where
+module _ {S C : Type 0} (m : MachineSpec S C) (n i : ℕ) (sent : List (Message C)) where
   -- small steps to a turn
   PathTo : Raft C → RaftTurn C → Type 0
   PathTo s turn = Path m n i sent s turn.server turn.sent
@@ -121,7 +121,7 @@ module _ {S C : Type 0} (m : Meaning S C) (n i : ℕ) (sent : List (Message C)) 
 
   -- an ok
   ok_path : (s : Raft C) (mode : Mode) (from term at : ℕ) (body : Body C) → WasSent sent (record { from = from; to = i; term = term; body = body }) → IsAck body s.term at →
-      s.mode ≡ mode → PathTo s (silent (hears_ok n i s from at mode))
+      s.mode ≡ mode → PathTo s (silent (after_append_ok n i s from at mode))
   unfolding PathTo
   ok_path s Down from term at body came ack mode = still refl refl
   ok_path s Follower from term at body came ack mode = still refl refl
@@ -135,7 +135,7 @@ module _ {S C : Type 0} (m : Meaning S C) (n i : ℕ) (sent : List (Message C)) 
   ]
 
   -- a refusal
-  refusal_path : (s : Raft C) (mode : Mode) (from at : ℕ) → s.mode ≡ mode → PathTo s (silent (hears_refusal n i s from at mode))
+  refusal_path : (s : Raft C) (mode : Mode) (from at : ℕ) → s.mode ≡ mode → PathTo s (silent (after_append_refusal n i s from at mode))
   unfolding PathTo
   refusal_path s Down from at mode = still refl refl
   refusal_path s Follower from at mode = still refl refl
@@ -165,7 +165,7 @@ module _ {S C : Type 0} (m : Meaning S C) (n i : ℕ) (sent : List (Message C)) 
 
   -- also of a greater term
   met_path : (s : Raft C) (from term : ℕ) (body : Body C) → from < n → WasSent sent (record { from = from; to = i; term = term; body = body }) →
-      PathTo s (receives m.noop n i (met term s) from term body)
+      PathTo s (receives m.noop n i (term_observed term s) from term body)
   unfolding PathTo
   met_path s from term body less came = elim (bool_cases (nat_lt s.term term)) [
     | inl e ↦ rw e (after_one (record s { term = term; vote = None; known = None; mode = Follower }) (raises _ came (ltb-true s.term term e) refl refl) (λ l. absurd (cc))

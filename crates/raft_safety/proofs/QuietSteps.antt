@@ -204,10 +204,10 @@ module _ {C : Type 0} (P : List (Entry C) → Type 0) (n : ℕ) (G : History C) 
   ack_told from to term asked at (VoteRequest index its_last) h b = absurd h
   ack_told from to term asked at (VoteReply answered granted) h b = absurd h
   ack_told from to term asked at (Append prev prev_term commit entries) h b = absurd h
-  ack_told from to term asked at (AppendReply answered true place) h b = subst (λ u. at ≤ G.held u from) h.0 (omega (arith, h.1, b))
-  ack_told from to term asked at (AppendReply answered false place) h b = absurd h
+  ack_told from to term asked at (AppendReply answered true index) h b = subst (λ u. at ≤ G.held u from) h.0 (omega (arith, h.1, b))
+  ack_told from to term asked at (AppendReply answered false index) h b = absurd h
   ack_told from to term asked at (Install covered) h b = absurd h
-  ack_told from to term asked at (InstallReply answered place) h b = subst (λ u. at ≤ G.held u from) h.0 (omega (arith, h.1, b))
+  ack_told from to term asked at (InstallReply answered index) h b = subst (λ u. at ≤ G.held u from) h.0 (omega (arith, h.1, b))
 
   -- nobody holds more than the leader has written
   pub held_within : (j : ℕ) (next match : List ℕ) → LeaderOk n G i s.term s.log next match → G.held s.term j ≤ length s.log

@@ -3,7 +3,7 @@
 use Rattle.std.proofs.Common.{◌≡◌, ◌≢◌, ℕ, zero, suc, ◌*◌, ◌<◌, ◌≤◌, inl, inr, Bool, true, ◌&&◌, ◌||◌, ◌==◌, nat_le, nat_lt, IsTrue, Some, List, [], ◌∷◌, ◌++◌, length, replicate, refl, sym, ap, ◌∙◌, subst, arith, slice_get, true≢false}
 use Rattle.std.proofs.lemmas.Bool.{and_from, eqb-true, eqb-false, leb-true, lt-ltb, eq-eqb}
 use Rattle.std.proofs.lemmas.Bool.Decides.{leb_tells}
-use Rattle.machine_model.specs.Meaning.{Meaning, LawfulMachine}
+use Rattle.machine_model.specs.MachineSpec.{MachineSpec, LawfulMachine}
 use Rattle.machine_model.specs.declared.entry.Entry.{Entry}
 use Rattle.raft_model.specs.Logs.{term_at}
 use Rattle.raft_model.specs.Quorums.{count, Quorum, is_quorum, index_at}
@@ -63,7 +63,7 @@ quorum_test : (n : ℕ) (f : ℕ → Bool) → Quorum n f → is_quorum n f ≡ 
 unfolding is_quorum Quorum
 quorum_test n f q = lt-ltb n (2 * count f n) q
 
-module _ {S C : Type 0} (m : Meaning S C) (n i : ℕ) (two : 2 ≤ n) where
+module _ {S C : Type 0} (m : MachineSpec S C) (n i : ℕ) (two : 2 ≤ n) where
   -- an index past what anybody else holds has no quorum
   past_match : (match : List ℕ) (k : ℕ) → ((j : ℕ) → j < n → j ≢ i → index_at match j < k) → Quorum n (λ j. (j == i) || nat_le k (index_at match j)) → ⊥
   past_match match k low = lone n i (λ j. (j == i) || nat_le k (index_at match j)) two (λ j less h. elim (or_either (j == i) (nat_le k (index_at match j)) h) [
@@ -104,7 +104,7 @@ module _ {S C : Type 0} (m : Meaning S C) (n i : ℕ) (two : 2 ≤ n) where
       let same : replicate n 0 ≡ match = same_match (replicate n (suc (length s.log))) (replicate n 0) next match (sym (ap (λ (y : Raft C). y.mode) is) ∙ e) in
       past_match match k (λ j less other. omega (arith, low, ap (λ l. index_at l j) same, index_at_replicate n 0 j less)) q
 
-module _ {S C : Type 0} (m : Meaning S C) (law : LawfulMachine m) (n : ℕ) (two : 2 ≤ n) where
+module _ {S C : Type 0} (m : MachineSpec S C) (law : LawfulMachine m) (n : ℕ) (two : 2 ≤ n) where
   -- an event
   next_risen : (events : List (Event C)) (past : List (World C)) (w : World C) (event : Event C) (next : World C) → Run m n events past w → Moves m w event next →
       ((i : ℕ) (s : Raft C) → slice_get w.servers i ≡ Some s → HasRisen n i s) → (i : ℕ) (t : Raft C) → slice_get next.servers i ≡ Some t → HasRisen n i t

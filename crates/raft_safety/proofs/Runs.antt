@@ -1,13 +1,13 @@
 -- Moments of a run: each first part of it is a run, and between two neighbouring moments lies one
 -- event.
 use Rattle.std.proofs.Common.{◌≡◌, ℕ, suc, ◌≤◌, Some, Ok, List, ◌∷◌, [], ◌++◌, length, take, arith}
-use Rattle.machine_model.specs.Meaning.{Meaning}
+use Rattle.machine_model.specs.MachineSpec.{MachineSpec}
 use Rattle.raft_model.specs.Worlds.{World, Event, IsEvent, happens, first, Run, start, more, moment}
 use Rattle.raft_safety.specs.Claims.{Happened}
 use Rattle.raft_safety.proofs.Moments.{Came, begun, gone, came_even, came_front, came_step}
 use Rattle.raft_safety.proofs.Places.{get-some, get-within}
 
-module _ {S C : Type 0} (m : Meaning S C) (n : ℕ) where
+module _ {S C : Type 0} (m : MachineSpec S C) (n : ℕ) where
   abbrev Goes : World C → Event C → World C → Type 0
   Goes w e next = IsEvent m e × (happens m w e ≡ Ok next)
 

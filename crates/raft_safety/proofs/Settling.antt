@@ -7,7 +7,7 @@ use Rattle.raft_model.specs.Rafts.{Raft}
 use Rattle.raft_model.specs.Worlds.{World}
 use Rattle.raft_model.specs.Chains.{Agree, At, Chain}
 use Rattle.raft_safety.specs.Claims.{LogMatching}
-use Rattle.raft_safety.specs.Tickets.{Stood, GoesOn, IsSettledIn}
+use Rattle.raft_safety.specs.Tickets.{Stood, GoesOn, IsCommittedIn}
 use Rattle.raft_safety.proofs.Places.{get-more, get-some, get-within}
 use Rattle.raft_safety.proofs.Logs.{agree_trans, agree_less, agree_term}
 
@@ -69,7 +69,7 @@ module _ {C : Type 0} where
         sym (agree_get s.commit (index - 1) s.log longer then less) ∙ (agree_get s.commit (index - 1) s.log list agrees less ∙ there)
 
     -- what is committed is settled
-    pub settled : IsSettledIn past w list index (term_at s.log index)
+    pub settled : IsCommittedIn past w list index (term_at s.log index)
     settled =
         let e = get-some list (index - 1) (let g = agrees.right in omega (arith, g, le, one)) in
         let place : suc (index - 1) ≡ index = omega (arith, one) in

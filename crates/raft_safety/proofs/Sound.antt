@@ -1,7 +1,7 @@
 -- Logs whose commands were each admitted after those before them.
 use Rattle.std.proofs.Common.{◌≡◌, ℕ, zero, suc, ◌<◌, ◌≤◌, nat_lt, None, List, [], ◌∷◌, ◌++◌, length, take, refl, sym, ap, subst, arith, inl, inr}
 use Rattle.std.proofs.lemmas.Bool.{ltb-true}
-use Rattle.machine_model.specs.Meaning.{Meaning, LawfulMachine, IsCommandOf}
+use Rattle.machine_model.specs.MachineSpec.{MachineSpec, LawfulMachine, IsCommandOf}
 use Rattle.machine_model.specs.After.{after, AdmittedFrom, Admitted}
 use Rattle.machine_model.proofs.Afters.{after_good, Admitted-push}
 use Rattle.machine_model.specs.declared.entry.Entry.{Entry}
@@ -11,7 +11,7 @@ use Rattle.raft_model.specs.Steps.{admission_refusal}
 use Rattle.raft_model.proofs.Cases.{bool_cases}
 
 -- the entries were admitted one after the other
-pub Sound : {S C : Type 0} → Meaning S C → List (Entry C) → Type 0
+pub Sound : {S C : Type 0} → MachineSpec S C → List (Entry C) → Type 0
 Sound m log = Admitted m (commands log)
 
 -- a command for each entry
@@ -31,7 +31,7 @@ commands_push : {C : Type 0} (log : List (Entry C)) (e : Entry C) → commands (
 unfolding commands
 commands_push log e = commands_append log (e ∷ [])
 
-module _ {S C : Type 0} (m : Meaning S C) where
+module _ {S C : Type 0} (m : MachineSpec S C) where
   -- the empty log
   pub none_sound : Sound m []
   unfolding Sound commands

@@ -1,6 +1,6 @@
 -- Each small step, each path and each event keeps the invariants, with a history that grows.
 use Rattle.std.proofs.Common.{◌≡◌, ℕ, ◌⊎◌, true, inl, inr, Some, List, [], ◌++◌, length, refl, sym, ap, ◌∙◌, subst, slice_get, slice_set}
-use Rattle.machine_model.specs.Meaning.{Meaning, LawfulMachine}
+use Rattle.machine_model.specs.MachineSpec.{MachineSpec, LawfulMachine}
 use Rattle.machine_model.specs.declared.entry.Entry.{Entry}
 use Rattle.raft_model.specs.Messages.{Message}
 use Rattle.raft_model.specs.Rafts.{Raft, is_leader}
@@ -26,7 +26,7 @@ shift P n G i t r out said e o v f =
     subst (λ x. KeepsHistory P n G i x out) (sym e) (subst (λ x. KeepsHistory P n G i r x) (sym o)
     (f (subst (λ x. VotesKept n G.ballots i r x) o (subst (λ x. VotesKept n G.ballots i x out) e v))))
 
-module _ {S C : Type 0} (m : Meaning S C) (law : LawfulMachine m) (n i : ℕ) (sent : List (Message C)) where
+module _ {S C : Type 0} (m : MachineSpec S C) (law : LawfulMachine m) (n i : ℕ) (sent : List (Message C)) where
   -- the votes of a small step
   kept_votes : (G : History C) (s t : Raft C) (out : List (Message C)) → ServerOk n G i s → SentOk n G sent → Small m n i sent s t out → VotesKept n G.ballots i t out
   kept_votes G s t out ok given x = small_votes m n G.ballots i sent s ok.voter (λ y came. let g = given y came in g.vote) t out x
@@ -65,7 +65,7 @@ module _ {S C : Type 0} (m : Meaning S C) (law : LawfulMachine m) (n i : ℕ) (s
       let one = small_keeps G s r [] I ok given (kept_votes G s r [] ok given x) x in
       keeps_more (Sound m) n G i s r t out ok passes one (path_keeps t out one.after r one.ledgers one.own (λ y came. message_on n G one.after y one.extends (given y came)) p)
 
-module _ {S C : Type 0} (m : Meaning S C) (law : LawfulMachine m) (n i : ℕ) (sent : List (Message C)) where
+module _ {S C : Type 0} (m : MachineSpec S C) (law : LawfulMachine m) (n i : ℕ) (sent : List (Message C)) where
   -- each turn
   pub turn_keeps : (t : Raft C) (out : List (Message C)) (G : History C) (s : Raft C) → Ledgers n G → ServerOk n G i s → SentOk n G sent → Turns m n i sent s t out → KeepsHistory (Sound m) n G i t out
   turn_keeps t out G s I ok given (walks up p) = path_keeps m law n i sent t out G s I ok given p
@@ -73,7 +73,7 @@ module _ {S C : Type 0} (m : Meaning S C) (law : LawfulMachine m) (n i : ℕ) (s
       (reset_votes m n G.ballots i sent s ok.voter (λ y came. let g = given y came in g.vote) t out mode h e o) (reset_keeps (Sound m) n G i s I ok mode out h o)
 
 -- the invariants of a world
-pub record WorldOk {S C : Type 0} (m : Meaning S C) (n : ℕ) (G : History C) (w : World C) : Type 0 where
+pub record WorldOk {S C : Type 0} (m : MachineSpec S C) (n : ℕ) (G : History C) (w : World C) : Type 0 where
   pub size : length w.servers ≡ n
   pub ledgers : Ledgers n G
   pub each : (j : ℕ) (s : Raft C) → slice_get w.servers j ≡ Some s → ServerOk n G j s
@@ -81,13 +81,13 @@ pub record WorldOk {S C : Type 0} (m : Meaning S C) (n : ℕ) (G : History C) (w
   pub sound : (u : ℕ) → Sound m (G.ledger u)
 
 -- after a step of one server, which is `new` then
-pub record WorldGoes {S C : Type 0} (m : Meaning S C) (n : ℕ) (G : History C) (w : World C) (new : Raft C) : Type 0 where
+pub record WorldGoes {S C : Type 0} (m : MachineSpec S C) (n : ℕ) (G : History C) (w : World C) (new : Raft C) : Type 0 where
   pub after : History C
   pub extends : Extends G after
   pub ok : WorldOk m n after w
   pub writes : (u : ℕ) → (after.ledger u ≡ G.ledger u) ⊎ ((new.term ≡ u) × (is_leader new.mode ≡ true))
 
-module _ {S C : Type 0} (m : Meaning S C) (law : LawfulMachine m) (n : ℕ) (G : History C) (w : World C) (event : Event C) (next : World C) (ok : WorldOk m n G w) (x : Moves m w event next) where
+module _ {S C : Type 0} (m : MachineSpec S C) (law : LawfulMachine m) (n : ℕ) (G : History C) (w : World C) (event : Event C) (next : World C) (ok : WorldOk m n G w) (x : Moves m w event next) where
   -- the server that took the event
   kept : KeepsHistory (Sound m) n G x.who x.new x.out
   kept = turn_keeps m law n x.who w.sent x.new x.out G x.old ok.ledgers (ok.each x.who x.old x.here) ok.given

@@ -2,7 +2,7 @@
 -- far.
 use Rattle.std.proofs.Common.{◌≡◌, ℕ, suc, ◌<◌, ◌≤◌, ◌⊎◌, inl, inr, Some, None, List, [], ◌∷◌, ◌++◌, length, take, refl, sym, ap, ◌∙◌, subst, arith, slice_get, true, false, length-take-le}
 use Rattle.std.proofs.lemmas.Bool.Decides.{leb_tells}
-use Rattle.machine_model.specs.Meaning.{Meaning, LawfulMachine}
+use Rattle.machine_model.specs.MachineSpec.{MachineSpec, LawfulMachine}
 use Rattle.machine_model.specs.declared.entry.Entry.{Entry}
 use Rattle.raft_model.specs.Rafts.{Raft, Leader, is_up, newcomer}
 use Rattle.raft_model.specs.Worlds.{World, first, Event, Run, start, more, moment, Leads}
@@ -62,7 +62,7 @@ first_server {C = C} n j v = record {
 }
 
 -- and the first world
-first_ok : {S C : Type 0} (m : Meaning S C) (n : ℕ) → let w : World C = first n in let G : History C = no_history in WorldOk m n G w
+first_ok : {S C : Type 0} (m : MachineSpec S C) (n : ℕ) → let w : World C = first n in let G : History C = no_history in WorldOk m n G w
 unfolding no_history
 first_ok {C = C} m n =
     let G : History C = no_history in
@@ -83,12 +83,12 @@ unfolding Rooted
 first_rooted log none p one le = absurd (omega (arith, none, one, le))
 
 -- no entry wants an origin yet
-first_born : {S C : Type 0} (m : Meaning S C) (n : ℕ) → let w : World C = first n in let G : History C = no_history in Born m [] [] w G
+first_born : {S C : Type 0} (m : MachineSpec S C) (n : ℕ) → let w : World C = first n in let G : History C = no_history in Born m [] [] w G
 unfolding no_history
 first_born m n = record { own = λ u p less. absurd (omega (arith, less)) }
 
 -- what the induction over a run carries
-pub record Story {S C : Type 0} (m : Meaning S C) (n : ℕ) (events : List (Event C)) (past : List (World C)) (w : World C) : Type 0 where
+pub record Story {S C : Type 0} (m : MachineSpec S C) (n : ℕ) (events : List (Event C)) (past : List (World C)) (w : World C) : Type 0 where
   pub even : length events ≡ length past
   pub history : History C
   pub ok : WorldOk m n history w
@@ -156,7 +156,7 @@ longer n H past w i v new old I ok here f top low = elim (leb_tells new.commit (
       }
 ]
 
-module _ {S C : Type 0} (m : Meaning S C) (law : LawfulMachine m) (n : ℕ) (events : List (Event C)) (past : List (World C)) (w : World C) (event : Event C) (next : World C) (st : Story m n events past w) (x : Moves m w event next) where
+module _ {S C : Type 0} (m : MachineSpec S C) (law : LawfulMachine m) (n : ℕ) (events : List (Event C)) (past : List (World C)) (w : World C) (event : Event C) (next : World C) (st : Story m n events past w) (x : Moves m w event next) where
   -- the history after the event
   g : WorldGoes m n st.history next x.new
   g = world_goes m law n st.history w event next st.ok x
@@ -256,7 +256,7 @@ module _ {S C : Type 0} (m : Meaning S C) (law : LawfulMachine m) (n : ℕ) (eve
     complete = next_complete;
   }
 
-module _ {S C : Type 0} (m : Meaning S C) (law : LawfulMachine m) (n : ℕ) where
+module _ {S C : Type 0} (m : MachineSpec S C) (law : LawfulMachine m) (n : ℕ) where
   -- the first world has newcomers alone
   first_server_is : (k i : ℕ) (s : Raft C) → At [] (first n) k i s → s ≡ newcomer
   first_server_is k i s a =

@@ -1,11 +1,11 @@
 -- Votes through small steps, and through a path of them.
 use Rattle.std.proofs.Common.{◌≡◌, ℕ, suc, inl, inr, Bool, true, false, Option, Some, None, List, [], ◌∷◌, length, sym, ◌∙◌, subst, arith, slice_get, slice_set, nat_le}
 use Rattle.std.proofs.lemmas.Bool.{eqb-true}
-use Rattle.machine_model.specs.Meaning.{Meaning}
+use Rattle.machine_model.specs.MachineSpec.{MachineSpec}
 use Rattle.machine_model.specs.declared.entry.Entry.{Entry}
 use Rattle.raft_model.specs.Quorums.{marked, is_quorum}
 use Rattle.raft_model.specs.Messages.{Message, Body, VoteRequest, VoteReply, Append, AppendReply, Install, InstallReply}
-use Rattle.raft_model.specs.Rafts.{Raft, Mode, Follower, Candidate, Leader, stood, vote_request_to, is_free_for, installed, match_raised, beat_message, beat_body}
+use Rattle.raft_model.specs.Rafts.{Raft, Mode, Follower, Candidate, Leader, election_started, vote_request_to, is_free_for, installed, match_raised, beat_message, beat_body}
 use Rattle.raft_model.proofs.Cases.{bool_cases}
 use Rattle.raft_safety.specs.Inner.SmallSteps.{OwesNothing, KnowsNothing, WasSent, Small, raises, stands, grants_vote, refuses, counts, wins, extends, follows, takes_append, takes_install, acks, backs, advances, covers, beats_all, Path, still, only, after_one, Turns, walks, resets}
 use Rattle.raft_safety.specs.Inner.Ballots.{Ballots, cast, is_for, Elected, VoterMode, Voter, VoteBody, BallotsGrow}
@@ -61,12 +61,12 @@ beat_says : {C : Type 0} (D : Ballots) (s : Raft C) (from to next : ℕ) → Vot
 unfolding VoteBody
 beat_says D s from to next = elim (bool_cases (nat_le next s.covered)) [ inl e ↦ rw e tt | inr e ↦ rw e tt ]
 
-module _ {S C : Type 0} (m : Meaning S C) (n : ℕ) (B : Ballots) (i : ℕ) (sent : List (Message C)) (s : Raft C)
+module _ {S C : Type 0} (m : MachineSpec S C) (n : ℕ) (B : Ballots) (i : ℕ) (sent : List (Message C)) (s : Raft C)
     (v : Voter n B i s.term s.vote s.mode) (given : VotesSent B sent) where
   -- a new candidate votes for itself
-  stands_votes : Votes n B i (suc s.term) (Some i) (stood n i s).mode
+  stands_votes : Votes n B i (suc s.term) (Some i) (election_started n i s).mode
   unfolding VoterMode
-  stands_votes = votes_cast n B i s.term (suc s.term) i s.vote s.mode (stood n i s).mode v (omega arith)
+  stands_votes = votes_cast n B i s.term (suc s.term) i s.vote s.mode (election_started n i s).mode v (omega arith)
       (λ d h. absurd (let none = v.later (suc s.term) (omega arith) in cc))
       (λ g mine j less mark. subst (λ k. (cast B i (suc s.term) i).ballot (suc s.term) k ≡ Some i) (sym (only_marked n i j mark)) mine)
 
@@ -124,7 +124,7 @@ module _ {S C : Type 0} (m : Meaning S C) (n : ℕ) (B : Ballots) (i : ℕ) (sen
   small_votes t out (raises x came less e o) = rw e (quiet_out n B i _ out o (votes_raise n B i s.term x.term s.vote s.mode v less))
   small_votes t out (stands term_fits index_fits e o) = rw (e, o) (record {
     votes = stands_votes;
-    says = λ k x h. let r = to_others_is i (vote_request_to i (stood n i s)) n k x h in rw r.3 tt;
+    says = λ k x h. let r = to_others_is i (vote_request_to i (election_started n i s)) n k x h in rw r.3 tt;
   })
   small_votes t out (grants_vote from index its_last came free newer e o) =
       rw (e, o) (says_one n B i _ _ (grants_votes from free) (sym (grants_votes from free).own.stored))
@@ -169,7 +169,7 @@ chained n B i term vote mode t out v k = record {
 }
 
 -- each path
-pub path_votes : {S C : Type 0} (m : Meaning S C) (n i : ℕ) (sent : List (Message C)) (t : Raft C) (out : List (Message C)) (B : Ballots) (s : Raft C) →
+pub path_votes : {S C : Type 0} (m : MachineSpec S C) (n i : ℕ) (sent : List (Message C)) (t : Raft C) (out : List (Message C)) (B : Ballots) (s : Raft C) →
     Voter n B i s.term s.vote s.mode → VotesSent B sent → Path m n i sent s t out → VotesKept n B i t out
 path_votes m n i sent t out B s v given (still e o) = still_votes m n B i sent s v given t out e o
 path_votes m n i sent t out B s v given (only x) = small_votes m n B i sent s v given t out x
@@ -179,7 +179,7 @@ path_votes m n i sent t out B s v given (after_one r x passes p) =
     (path_votes m n i sent t out one.votes.after r one.votes.own (sent_on B one.votes.after sent one.votes.grow given) p)
 
 -- each turn
-pub turn_votes : {S C : Type 0} (m : Meaning S C) (n i : ℕ) (sent : List (Message C)) (t : Raft C) (out : List (Message C)) (B : Ballots) (s : Raft C) →
+pub turn_votes : {S C : Type 0} (m : MachineSpec S C) (n i : ℕ) (sent : List (Message C)) (t : Raft C) (out : List (Message C)) (B : Ballots) (s : Raft C) →
     Voter n B i s.term s.vote s.mode → VotesSent B sent → Turns m n i sent s t out → VotesKept n B i t out
 turn_votes m n i sent t out B s v given (walks up p) = path_votes m n i sent t out B s v given p
 turn_votes m n i sent t out B s v given (resets mode h down e o) = reset_votes m n B i sent s v given t out mode h e o

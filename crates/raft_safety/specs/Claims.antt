@@ -1,6 +1,6 @@
 -- What the theorems say of a run. Server numbers and moments begin at 0, indexes of entries at 1.
 use Rattle.std.specs.Prelude.{◌≡◌, ◌≢◌, ℕ, suc, ◌≤◌, ◌<◌, ◌⊎◌, Bool, true, ◌==◌, ◌||◌, nat_le, Some, Ok, List, [], ◌∷◌, ◌++◌, length, take, slice_get}
-use Rattle.machine_model.specs.Meaning.{Meaning}
+use Rattle.machine_model.specs.MachineSpec.{MachineSpec}
 use Rattle.machine_model.specs.declared.entry.Entry.{Entry}
 use Rattle.raft_model.specs.Logs.{MAX, term_at}
 use Rattle.raft_model.specs.Quorums.{Quorum, index_at}
@@ -11,11 +11,11 @@ use Rattle.raft_model.specs.Chains.{Agree, At, WasCommitted}
 
 -- P holds of each run, of any number of servers and any length: n servers, the events, the worlds
 -- before the last one, and that one
-abbrev pub EachRun : {S C : Type 0} → Meaning S C → (ℕ → List (Event C) → List (World C) → World C → Type 0) → Type 0
+abbrev pub EachRun : {S C : Type 0} → MachineSpec S C → (ℕ → List (Event C) → List (World C) → World C → Type 0) → Type 0
 EachRun {S} {C} m P = (n : ℕ) (events : List (Event C)) (past : List (World C)) (w : World C) → Run m n events past w → P n events past w
 
 -- The event between a moment and the next one, at which the worlds were these.
-pub record Happened {S C : Type 0} (m : Meaning S C) (events : List (Event C)) (k : ℕ) (before after : World C) : Type 0 where
+pub record Happened {S C : Type 0} (m : MachineSpec S C) (events : List (Event C)) (k : ℕ) (before after : World C) : Type 0 where
   pub event : Event C
   pub at : slice_get events k ≡ Some event
   pub is : IsEvent m event
@@ -34,7 +34,7 @@ pub record IsGreatestCommit {C : Type 0} (past : List (World C)) (w : World C) (
 
 -- How a leader's log grew by one entry: it took a proposal; or it was a candidate and wins now, and
 -- the entry is its no-op.
-pub data Grew {S C : Type 0} (m : Meaning S C) (i : ℕ) (event : Event C) (before after : Raft C) : Type 0 where
+pub data Grew {S C : Type 0} (m : MachineSpec S C) (i : ℕ) (event : Event C) (before after : Raft C) : Type 0 where
   proposed : (command : C) → is_leader before.mode ≡ true → event ≡ Proposes i command →
       after.log ≡ before.log ++ record { term = before.term; command = command } ∷ [] → Grew m i event before after
   elected : (votes : List Bool) → before.mode ≡ Candidate votes →
@@ -43,7 +43,7 @@ pub data Grew {S C : Type 0} (m : Meaning S C) (i : ℕ) (event : Event C) (befo
 -- Where the entry that follows the first p of a list comes from: at some moment server `who`, of
 -- the entry's term, has just these p entries in its log, and with the next event it leads that term
 -- and has this entry besides.
-pub record Origin {S C : Type 0} (m : Meaning S C) (events : List (Event C)) (past : List (World C)) (w : World C) (list : List (Entry C)) (p : ℕ) : Type 0 where
+pub record Origin {S C : Type 0} (m : MachineSpec S C) (events : List (Event C)) (past : List (World C)) (w : World C) (list : List (Entry C)) (p : ℕ) : Type 0 where
   pub moment : ℕ
   pub who : ℕ
   pub before : Raft C

@@ -23,7 +23,7 @@ pub record GoesOn {W : Type 0} (past : List W) (w : W) (later : List W) (last : 
 
 -- The run's list has this entry at this index; no other command ever stood there in its term; and
 -- however the run goes on, its list has the same entry there.
-pub record Settled {C : Type 0} (past : List (World C)) (w : World C) (list : List (Entry C)) (index : ℕ) (entry : Entry C) : Type 0 where
+pub record Committed {C : Type 0} (past : List (World C)) (w : World C) (list : List (Entry C)) (index : ℕ) (entry : Entry C) : Type 0 where
   pub one : 1 ≤ index
   pub there : slice_get list (index - 1) ≡ Some entry
   pub alone : (command : C) → Stood past w index entry.term command → command ≡ entry.command
@@ -31,12 +31,12 @@ pub record Settled {C : Type 0} (past : List (World C)) (w : World C) (list : Li
       GoesOn past w later last → Chain later last longer → slice_get longer (index - 1) ≡ Some entry
 
 -- the entry that the list has at this index is of this term, and is settled
-pub record IsSettledIn {C : Type 0} (past : List (World C)) (w : World C) (list : List (Entry C)) (index term : ℕ) : Type 0 where
+pub record IsCommittedIn {C : Type 0} (past : List (World C)) (w : World C) (list : List (Entry C)) (index term : ℕ) : Type 0 where
   pub entry : Entry C
   pub of : entry.term ≡ term
-  pub settled : Settled past w list index entry
+  pub settled : Committed past w list index entry
 
 -- whatever a server has committed, at any moment, is settled, in the term that it has there
-abbrev pub CommittedIsSettled : {C : Type 0} → List (World C) → World C → List (Entry C) → Type 0
-CommittedIsSettled {C} past w list = (k i index : ℕ) (s : Raft C) → At past w k i s → 1 ≤ index → index ≤ s.commit →
-    IsSettledIn past w list index (term_at s.log index)
+abbrev pub CommitIsFinal : {C : Type 0} → List (World C) → World C → List (Entry C) → Type 0
+CommitIsFinal {C} past w list = (k i index : ℕ) (s : Raft C) → At past w k i s → 1 ≤ index → index ≤ s.commit →
+    IsCommittedIn past w list index (term_at s.log index)

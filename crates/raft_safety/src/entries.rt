@@ -14,7 +14,7 @@ use machine_model::Machine;
 /// Two logs that hold an entry of one index and term, at one moment or at two, are the same up to
 /// it.
 pub fn log_matching<M: Machine>()
-    ensures { EachRun M.meaning (λ n events past w. LogMatching past w) }
+    ensures { EachRun M.spec (λ n events past w. LogMatching past w) }
 {}
 
 /// Each run has one list, of which every server has committed a first part at every moment. Whoever
@@ -24,7 +24,7 @@ pub fn log_matching<M: Machine>()
 ///   number is one.
 /// - `grows`: the list of each first part of the run is its beginning.
 pub fn one_list<M: Machine>()
-    ensures exists { EachRun M.meaning (λ n events past w. (list : List (Entry M.Command))
+    ensures exists { EachRun M.spec (λ n events past w. (list : List (Entry M.Command))
         × Chain past w list) }
     ensures alone { (past : List (World M.Command)) (w : World M.Command) (list other : List (Entry M.Command)) → Chain past w list → Chain past w other → list ≡ other }
     ensures long { (past : List (World M.Command)) (w : World M.Command) (list : List (Entry M.Command)) → Chain past w list → IsGreatestCommit past w (length list) }
@@ -38,17 +38,17 @@ pub fn one_list<M: Machine>()
 /// The state after each first part of the list is safe, and so is that after each first part of any
 /// server's log, a leader's above all: each log was admitted command by command.
 pub fn states_are_safe<M: Machine>()
-    ensures list { EachRun M.meaning (λ n events past w. (list : List (Entry M.Command))
-        → Chain past w list → (k : ℕ) → M.meaning.safe (state_after M.meaning (take k list))) }
-    ensures log { EachRun M.meaning (λ n events past w. (k i : ℕ) (s : Raft M.Command)
-        → At past w k i s → (p : ℕ) → M.meaning.safe (state_after M.meaning (take p s.log))) }
-    ensures admitted { EachRun M.meaning (λ n events past w. (k i : ℕ) (s : Raft M.Command)
-        → At past w k i s → Admitted M.meaning (commands s.log)) }
+    ensures list { EachRun M.spec (λ n events past w. (list : List (Entry M.Command))
+        → Chain past w list → (k : ℕ) → M.spec.safe (state_after M.spec (take k list))) }
+    ensures log { EachRun M.spec (λ n events past w. (k i : ℕ) (s : Raft M.Command)
+        → At past w k i s → (p : ℕ) → M.spec.safe (state_after M.spec (take p s.log))) }
+    ensures admitted { EachRun M.spec (λ n events past w. (k i : ℕ) (s : Raft M.Command)
+        → At past w k i s → Admitted M.spec (commands s.log)) }
 {}
 
 /// Each entry of the list was appended by a leader of its term whose log was just what precedes it
 /// in the list; a no-op also by the candidate that won the term by this event.
 pub fn entries_have_origins<M: Machine>()
-    ensures { EachRun M.meaning (λ n events past w. (list : List (Entry M.Command))
-        → Chain past w list → (p : ℕ) → p < length list → Origin M.meaning events past w list p) }
+    ensures { EachRun M.spec (λ n events past w. (list : List (Entry M.Command))
+        → Chain past w list → (p : ℕ) → p < length list → Origin M.spec events past w list p) }
 {}

@@ -6,5 +6,5 @@ use machine_model::Machine;
 
 /// No two servers are ever leaders of one term, at one moment or at two.
 pub fn one_leader_a_term<M: Machine>()
-    ensures { EachRun M.meaning (λ n events past w. OneLeader past w) }
+    ensures { EachRun M.spec (λ n events past w. OneLeader past w) }
 {}

@@ -5,7 +5,7 @@ ghost use Rattle.machine_model.specs.declared.entry.Entry.{Entry};
 ghost use Rattle.raft_model.specs.Worlds.{World};
 ghost use Rattle.raft_model.specs.Chains.{Chain};
 ghost use Rattle.raft_safety.specs.Claims.{EachRun};
-ghost use Rattle.raft_safety.specs.Tickets.{Stood, GoesOn, CommittedIsSettled};
+ghost use Rattle.raft_safety.specs.Tickets.{Stood, GoesOn, CommitIsFinal};
 
 use machine_model::Machine;
 
@@ -16,10 +16,10 @@ use machine_model::Machine;
 /// - `settled`: the list has an entry of that server's term at that index; no other command ever
 ///   stood there in that term, in any log; and however the run goes on, its list has the same entry
 ///   there.
-/// - `stood`: what stood in a run stood in each that goes on from it.
-pub fn committed_is_settled<M: Machine>()
-    ensures settled { EachRun M.meaning (λ n events past w. (list : List (Entry M.Command))
-        → Chain past w list → CommittedIsSettled past w list) }
+/// - `election_started`: what stood in a run stood in each that goes on from it.
+pub fn commit_is_final<M: Machine>()
+    ensures settled { EachRun M.spec (λ n events past w. (list : List (Entry M.Command))
+        → Chain past w list → CommitIsFinal past w list) }
     ensures stood { (past : List (World M.Command)) (w : World M.Command) (later : List (World M.Command)) (last : World M.Command) (index term : ℕ) (command : M.Command) →
         GoesOn past w later last → Stood past w index term command
         → Stood later last index term command }

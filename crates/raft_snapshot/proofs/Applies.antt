@@ -2,7 +2,7 @@
 use Rattle.std.proofs.Common.{◌≡◌, ℕ, suc, ◌+◌, ◌-◌, ◌<◌, ◌≤◌, List, [], ◌∷◌, ◌++◌, length, take, drop, get_or, refl, sym, ap, ◌∙◌, arith, length-take-le, length-drop, Result, Ok, Err, OnOk}
 use Rattle.std.proofs.Math.Seq.{take-add}
 use Rattle.std.proofs.lemmas.List.{take_more, drop-append-le}
-use Rattle.machine_model.specs.Meaning.{Meaning, LawfulMachine}
+use Rattle.machine_model.specs.MachineSpec.{MachineSpec, LawfulMachine}
 use Rattle.machine_model.specs.After.{after_from}
 use Rattle.machine_model.proofs.Afters.{after_from-append, after_from-count}
 use Rattle.machine_model.specs.declared.entry.Entry.{Entry}
@@ -27,7 +27,7 @@ commands-more : {C : Type 0} (es : List (Entry C)) (i : ℕ) (e : Entry C) → i
 commands-more es i e within read =
     ap commands (take_more es i e within ∙ ap (λ x. take i es ++ x ∷ []) (sym read)) ∙ commands-append (take i es) (e ∷ []) ∙ ap (λ x. commands (take i es) ++ x) (commands-one e)
 
-module _ {S C : Type 0} (m : Meaning S C) where
+module _ {S C : Type 0} (m : MachineSpec S C) where
   -- nothing is applied yet
   pub from-none : (s : S) (es : List (Entry C)) → s ≡ after_from m s (commands (take 0 es))
   unfolding commands
@@ -54,7 +54,7 @@ module _ {S C : Type 0} (m : Meaning S C) where
       step ∙ ap (λ x. after_from m x (commands (take k (drop from es)))) old
       ∙ sym (ap (state_from m base) whole ∙ state_from-append base (take from es) (take k (drop from es)) past)
 
-module _ {S C : Type 0} (m : Meaning S C) (law : LawfulMachine m) where
+module _ {S C : Type 0} (m : MachineSpec S C) (law : LawfulMachine m) where
   -- each entry that was applied adds one to the count
   pub from-count : (s₀ : S) (es : List (Entry C)) (i : ℕ) (s : S) → i ≤ length es → s ≡ after_from m s₀ (commands (take i es)) → m.count s ≡ m.count s₀ + i
   from-count s₀ es i s within old =

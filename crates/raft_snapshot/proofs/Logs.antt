@@ -8,7 +8,7 @@ use Rattle.std.proofs.lemmas.List.{drop-append-le, take-append-drop, drop-take, 
 use Rattle.machine_model.specs.declared.entry.Entry.{Entry}
 use Rattle.raft_model.specs.Logs.{term_at, last_term, has, merge, install}
 use Rattle.raft_model.specs.Rafts.{greatest}
-use Rattle.raft_snapshot.specs.Filled.{refilled}
+use Rattle.raft_snapshot.specs.Prefixes.{log_with_prefix}
 
 pub term_at_zero : {C : Type 0} (log : List (Entry C)) → term_at log 0 ≡ 0
 unfolding term_at
@@ -36,15 +36,15 @@ front_term {C = C} L k p within le =
     sym (ap (λ (l : List (Entry C)). term_at l p) (sym (take-append-drop k L)) ∙ term_front (take k L) (drop k L) p (omega (arith, le, length-take-le k L within)))
 
 -- what comes behind comes behind the filled in log too
-pub later : {C : Type 0} (P L more : List (Entry C)) → length P ≤ length L → refilled P L ++ more ≡ refilled P (L ++ more)
+pub later : {C : Type 0} (P L more : List (Entry C)) → length P ≤ length L → log_with_prefix P L ++ more ≡ log_with_prefix P (L ++ more)
 later {C = C} P L more within = append_assoc P (drop (length P) L) more ∙ ap (λ (l : List (Entry C)). P ++ l) (sym (drop-append-le (length P) L more within))
 
 module _ {C : Type 0} (P L : List (Entry C)) (within : length P ≤ length L) (same : last_term P ≡ term_at L (length P)) where
-  pub filled-length : length (refilled P L) ≡ length L
-  filled-length = omega (arith, length-append P (drop (length P) L), length-drop (length P) L)
+  pub with_prefix-length : length (log_with_prefix P L) ≡ length L
+  with_prefix-length = omega (arith, length-append P (drop (length P) L), length-drop (length P) L)
 
-  pub filled-term : (p : ℕ) → length P ≤ p → term_at (refilled P L) p ≡ term_at L p
-  filled-term p le = elim (leb_tells p (length P)) [
+  pub with_prefix-term : (p : ℕ) → length P ≤ p → term_at (log_with_prefix P L) p ≡ term_at L p
+  with_prefix-term p le = elim (leb_tells p (length P)) [
     | inl t ↦
         let e : p ≡ length P = omega (arith, t.1) in
         rw e (term_front P (drop (length P) L) (length P) (omega arith) ∙ same)
@@ -57,48 +57,48 @@ module _ {C : Type 0} (P L : List (Entry C)) (within : length P ≤ length L) (s
         ∙ sym (ap (λ (l : List (Entry C)). term_at l p) (sym (take-append-drop (length P) L)) ∙ term_behind (take (length P) L) (drop (length P) L) p q there)
   ]
 
-  pub filled-last_term : last_term (refilled P L) ≡ last_term L
-  filled-last_term = ap (term_at (refilled P L)) filled-length ∙ filled-term (length L) within
+  pub with_prefix-last_term : last_term (log_with_prefix P L) ≡ last_term L
+  with_prefix-last_term = ap (term_at (log_with_prefix P L)) with_prefix-length ∙ with_prefix-term (length L) within
 
-  pub filled-has : (p term : ℕ) → length P ≤ p → has (refilled P L) p term ≡ has L p term
-  filled-has p term le = rw (filled-length, filled-term p le) refl
+  pub with_prefix-has : (p term : ℕ) → length P ≤ p → has (log_with_prefix P L) p term ≡ has L p term
+  with_prefix-has p term le = rw (with_prefix-length, with_prefix-term p le) refl
 
-  pub filled-grown : (more : List (Entry C)) → refilled P L ++ more ≡ refilled P (L ++ more)
-  filled-grown more = later P L more within
+  pub with_prefix-grown : (more : List (Entry C)) → log_with_prefix P L ++ more ≡ log_with_prefix P (L ++ more)
+  with_prefix-grown more = later P L more within
 
-  pub filled-drop : (k : ℕ) → length P ≤ k → drop k (refilled P L) ≡ drop k L
-  filled-drop k le = drop-append-drop (length P) L P k le refl
+  pub with_prefix-drop : (k : ℕ) → length P ≤ k → drop k (log_with_prefix P L) ≡ drop k L
+  with_prefix-drop k le = drop-append-drop (length P) L P k le refl
 
-  pub filled-take : (k : ℕ) → length P ≤ k → take k (refilled P L) ≡ refilled P (take k L)
-  filled-take k le =
+  pub with_prefix-take : (k : ℕ) → length P ≤ k → take k (log_with_prefix P L) ≡ log_with_prefix P (take k L)
+  with_prefix-take k le =
       let n = k - length P in
       let e : k ≡ length P + n = omega arith in
-      ap (λ (i : ℕ). take i (refilled P L)) e ∙ take-append-add P (drop (length P) L) n
+      ap (λ (i : ℕ). take i (log_with_prefix P L)) e ∙ take-append-add P (drop (length P) L) n
       ∙ ap (λ (l : List (Entry C)). P ++ l) (sym (drop-take (length P) n L) ∙ ap (λ (i : ℕ). drop (length P) (take i L)) (sym e))
 
-  merge_step : (c p : ℕ) (e : Entry C) (es : List (Entry C)) (t : Bool) → length P ≤ p → merge c (suc p) (refilled P L) es ≡ refilled P (merge c (suc p) L es) → cond t (merge c (suc p) (refilled P L) es) (take p (refilled P L) ++ e ∷ es) ≡ refilled P (cond t (merge c (suc p) L es) (take p L ++ e ∷ es))
+  merge_step : (c p : ℕ) (e : Entry C) (es : List (Entry C)) (t : Bool) → length P ≤ p → merge c (suc p) (log_with_prefix P L) es ≡ log_with_prefix P (merge c (suc p) L es) → cond t (merge c (suc p) (log_with_prefix P L) es) (take p (log_with_prefix P L) ++ e ∷ es) ≡ log_with_prefix P (cond t (merge c (suc p) L es) (take p L ++ e ∷ es))
   merge_step c p e es true le rest = rest
   merge_step c p e es false le rest =
-      ap (λ (l : List (Entry C)). l ++ e ∷ es) (filled-take p le) ∙ later P (take p L) (e ∷ es) (omega (arith, length-take p L))
+      ap (λ (l : List (Entry C)). l ++ e ∷ es) (with_prefix-take p le) ∙ later P (take p L) (e ∷ es) (omega (arith, length-take p L))
 
-  pub filled-merge : (c p : ℕ) (es : List (Entry C)) → length P ≤ c → merge c p (refilled P L) es ≡ refilled P (merge c p L es)
+  pub with_prefix-merge : (c p : ℕ) (es : List (Entry C)) → length P ≤ c → merge c p (log_with_prefix P L) es ≡ log_with_prefix P (merge c p L es)
   unfolding merge
-  filled-merge c p [] le = refl
-  filled-merge c p (e ∷ es) le = elim (leb_tells (suc p) c) [
-    | inl t ↦ rw t.0 (filled-merge c (suc p) es le)
-    | inr t ↦ rw (filled-has (suc p) e.term (omega (arith, t.1))) (merge_step c p e es (nat_le (suc p) c || has L (suc p) e.term) (omega (arith, t.1)) (filled-merge c (suc p) es le))
+  with_prefix-merge c p [] le = refl
+  with_prefix-merge c p (e ∷ es) le = elim (leb_tells (suc p) c) [
+    | inl t ↦ rw t.0 (with_prefix-merge c (suc p) es le)
+    | inr t ↦ rw (with_prefix-has (suc p) e.term (omega (arith, t.1))) (merge_step c p e es (nat_le (suc p) c || has L (suc p) e.term) (omega (arith, t.1)) (with_prefix-merge c (suc p) es le))
   ]
 
-  install_step : (Q B : List (Entry C)) (t : Bool) → length B ≡ length Q → length P ≤ length Q → cond t (Q ++ drop (length Q) (refilled P L)) Q ≡ refilled Q (cond t (B ++ drop (length B) L) B)
-  install_step Q B true each le = ap (λ (l : List (Entry C)). Q ++ l) (filled-drop (length Q) le ∙ ap (λ (i : ℕ). drop i L) (sym each) ∙ sym (ap (λ (i : ℕ). drop i (B ++ drop (length B) L)) (sym each) ∙ drop-append_seam B (drop (length B) L)))
+  install_step : (Q B : List (Entry C)) (t : Bool) → length B ≡ length Q → length P ≤ length Q → cond t (Q ++ drop (length Q) (log_with_prefix P L)) Q ≡ log_with_prefix Q (cond t (B ++ drop (length B) L) B)
+  install_step Q B true each le = ap (λ (l : List (Entry C)). Q ++ l) (with_prefix-drop (length Q) le ∙ ap (λ (i : ℕ). drop i L) (sym each) ∙ sym (ap (λ (i : ℕ). drop i (B ++ drop (length B) L)) (sym each) ∙ drop-append_seam B (drop (length B) L)))
   install_step Q B false each le = sym (append-nil Q) ∙ ap (λ (l : List (Entry C)). Q ++ l) (sym (ap (λ (i : ℕ). drop i B) (sym each) ∙ drop-length B))
 
   -- a snapshot of Q, in place of one that shows as B
-  pub filled-install : (Q B : List (Entry C)) → length B ≡ length Q → last_term B ≡ last_term Q → length P ≤ length Q → install (refilled P L) Q ≡ refilled Q (install L B)
+  pub with_prefix-install : (Q B : List (Entry C)) → length B ≡ length Q → last_term B ≡ last_term Q → length P ≤ length Q → install (log_with_prefix P L) Q ≡ log_with_prefix Q (install L B)
   unfolding install
-  filled-install Q B each term le =
+  with_prefix-install Q B each term le =
       let t : has L (length B) (last_term B) ≡ has L (length Q) (last_term Q) = rw (term, each) refl in
-      rw (filled-has (length Q) (last_term Q) le, t) (install_step Q B (has L (length Q) (last_term Q)) each le)
+      rw (with_prefix-has (length Q) (last_term Q) le, t) (install_step Q B (has L (length Q) (last_term Q)) each le)
 
 pub greatest-same : (f g : ℕ → Bool) (low high : ℕ) → ((k : ℕ) → low < k → f k ≡ g k) → greatest f low high ≡ greatest g low high
 unfolding greatest

@@ -4,7 +4,7 @@ use Rattle.std.proofs.Common.{◌≡◌, ℕ, zero, suc, ◌+◌, ◌-◌, ◌<�
 use Rattle.std.proofs.Math.Seq.{take-append-add}
 use Rattle.std.proofs.lemmas.List.{take-append-le}
 use Rattle.std.proofs.lemmas.Bool.Decides.{leb_tells}
-use Rattle.machine_model.specs.Meaning.{Meaning}
+use Rattle.machine_model.specs.MachineSpec.{MachineSpec}
 use Rattle.machine_model.specs.After.{after_from}
 use Rattle.machine_model.specs.declared.entry.Entry.{Entry}
 use Rattle.raft_model.specs.Logs.{commands, has, merge}
@@ -61,7 +61,7 @@ module _ {C : Type 0} (c p : ℕ) (log es : List (Entry C)) (i : ℕ) (e : Entry
       let now : (nat_le (suc (p + i)) c || has log (suc (p + i)) e.term) ≡ false = rw q at is in
       rw (drop_at es i e within read) (merge_cut c (p + i) log e (drop (suc i) es) now)
 
-module _ {S C : Type 0} (m : Meaning S C) (base : Base S) where
+module _ {S C : Type 0} (m : MachineSpec S C) (base : Base S) where
   -- up to the cut nothing changed
   pub after_kept : (es tail : List (Entry C)) (keep n : ℕ) (s : S) → n ≤ keep → keep ≤ length es → s ≡ state_from m base (take n es) → s ≡ state_from m base (take n (take keep es ++ tail))
   after_kept es tail keep n s le within old =

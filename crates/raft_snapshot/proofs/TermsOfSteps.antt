@@ -4,12 +4,12 @@ use Rattle.std.specs.Prelude.{◌==◌, slice_set}
 use Rattle.std.proofs.lemmas.Bool.{leb-true, leb-false}
 use Rattle.rows.specs.declared.refusal.Refusal.{Refusal}
 use Rattle.rows.specs.declared.refusal.Refusal.TheVariants as refusals
-use Rattle.machine_model.specs.Meaning.{Meaning}
+use Rattle.machine_model.specs.MachineSpec.{MachineSpec}
 use Rattle.machine_model.specs.declared.entry.Entry.{Entry}
 use Rattle.raft_model.specs.Logs.{MAX, term_at, install}
 use Rattle.raft_model.specs.Messages.{Message, Body, to_others, VoteRequest, VoteReply, Append, AppendReply, Install, InstallReply}
 use Rattle.raft_model.specs.Quorums.{is_quorum, marked, index_at}
-use Rattle.raft_model.specs.Rafts.{Raft, RaftTurn, Mode, Down, Follower, Candidate, Leader, is_up, is_leader, silent, reply, met, stood, grants, granted, counted, won, following, follows_append, appended, installed, hears_ok, hears_refusal, match_raised, backed_off, advanced, advanced_in, beats, vote_request_to, crashed, restarted, compacted, extended}
+use Rattle.raft_model.specs.Rafts.{Raft, RaftTurn, Mode, Down, Follower, Candidate, Leader, is_up, is_leader, silent, reply, term_observed, election_started, grants, granted, counted, won, following, follows_append, appended, installed, after_append_ok, after_append_refusal, match_raised, backed_off, advanced, advanced_in, beats, vote_request_to, crashed, restarted, compacted, extended}
 use Rattle.raft_model.specs.Steps.{Input, Arrives, Timeout, Beat, Propose, Compact, Crash, Restart, receives, admission_refusal, unless, acts, wakes, step}
 use Rattle.raft_snapshot.specs.Changes.{TermsTell}
 use Rattle.raft_snapshot.proofs.TermsOfMerges.{tells_same, tells_more, tells_merge}
@@ -62,7 +62,7 @@ module _ {C : Type 0} where
   raised_log true s t e = e
   raised_log false s t e = refl
 
-  ok_case : (n me : ℕ) (s : Raft C) (j at : ℕ) (mode : Mode) → Told s (hears_ok n me s j at mode)
+  ok_case : (n me : ℕ) (s : Raft C) (j at : ℕ) (mode : Mode) → Told s (after_append_ok n me s j at mode)
   ok_case n me s j at Down = same_log s s refl
   ok_case n me s j at Follower = same_log s s refl
   ok_case n me s j at (Candidate votes) = same_log s s refl
@@ -70,7 +70,7 @@ module _ {C : Type 0} where
       let raised = match_raised s j at next match in
       same_log s (advanced n me raised) (advanced_log n me raised raised.mode ∙ raised_log (leb at (length s.log)) s (record s { mode = Leader (slice_set next j (suc (max (index_at match j) at))) (slice_set match j (max (index_at match j) at)) }) refl)
 
-  refusal_case : (n me : ℕ) (s : Raft C) (j at : ℕ) (mode : Mode) → Told s (hears_refusal n me s j at mode)
+  refusal_case : (n me : ℕ) (s : Raft C) (j at : ℕ) (mode : Mode) → Told s (after_append_refusal n me s j at mode)
   refusal_case n me s j at Down = same_log s s refl
   refusal_case n me s j at Follower = same_log s s refl
   refusal_case n me s j at (Candidate votes) = same_log s s refl
@@ -106,12 +106,12 @@ module _ {C : Type 0} where
     received noop n me from term (Append prev prev_term commit entries) =
         either_turn (ltb term s.term) s (reply me s from (AppendReply term false 0)) (cond (is_leader s.mode) (silent s) (follows_append me (following s from) from prev prev_term commit entries)) (same_log s s refl)
         (either_turn (is_leader s.mode) s (silent s) (follows_append me (following s from) from prev prev_term commit entries) (same_log s s refl) (follows_case me from prev prev_term commit entries))
-    received noop n me from term (AppendReply asked true at) = raised (asked == s.term) s (hears_ok n me s from at s.mode) (same_log s s refl) (ok_case n me s from at s.mode)
-    received noop n me from term (AppendReply asked false at) = raised (asked == s.term) s (hears_refusal n me s from at s.mode) (same_log s s refl) (refusal_case n me s from at s.mode)
+    received noop n me from term (AppendReply asked true at) = raised (asked == s.term) s (after_append_ok n me s from at s.mode) (same_log s s refl) (ok_case n me s from at s.mode)
+    received noop n me from term (AppendReply asked false at) = raised (asked == s.term) s (after_append_refusal n me s from at s.mode) (same_log s s refl) (refusal_case n me s from at s.mode)
     received noop n me from term (Install P) =
         either_turn (ltb term s.term) s (reply me s from (InstallReply term 0)) (cond (is_leader s.mode) (silent s) (reply me (installed (following s from) P) from (InstallReply term (length P)))) (same_log s s refl)
         (either_turn (is_leader s.mode) s (silent s) (reply me (installed (following s from) P) from (InstallReply term (length P))) (same_log s s refl) (installed_case (leb (length P) s.commit) from P refl))
-    received noop n me from term (InstallReply asked at) = raised (asked == s.term) s (hears_ok n me s from at s.mode) (same_log s s refl) (ok_case n me s from at s.mode)
+    received noop n me from term (InstallReply asked at) = raised (asked == s.term) s (after_append_ok n me s from at s.mode) (same_log s s refl) (ok_case n me s from at s.mode)
 
   -- a server that met a term has the same log, base and commit
   met_case : (b : Bool) (s : Raft C) (t : Raft C) (more : Raft C → RaftTurn C) → t.log ≡ s.log → t.covered ≡ s.covered → t.commit ≡ s.commit → s.commit ≤ length s.log → s.covered ≤ s.commit
@@ -129,15 +129,15 @@ module _ {C : Type 0} where
   if_ok false s a turn cause e told = absurd cc
 
   stands_case : (b c : Bool) (n me : ℕ) (s : Raft C) (sent : List (Message C)) (turn : RaftTurn C)
-      → cond b (Ok (silent s)) (cond c (Ok (record { server = stood n me s; sent = sent })) (Err refusals.Exhausted)) ≡ Ok turn → ToldTurn s turn
+      → cond b (Ok (silent s)) (cond c (Ok (record { server = election_started n me s; sent = sent })) (Err refusals.Exhausted)) ≡ Ok turn → ToldTurn s turn
   stands_case true c n me s sent turn e = let same : silent s ≡ turn = cc e in subst (ToldTurn s) same (same_log s s refl)
-  stands_case false c n me s sent turn e = if_ok c s (record { server = stood n me s; sent = sent }) turn refusals.Exhausted e (same_log s (stood n me s) refl)
+  stands_case false c n me s sent turn e = if_ok c s (record { server = election_started n me s; sent = sent }) turn refusals.Exhausted e (same_log s (election_started n me s) refl)
 
   unless_case : (r : Option Refusal) (s : Raft C) (a turn : RaftTurn C) → unless r a ≡ Ok turn → ToldTurn s a → ToldTurn s turn
   unless_case None s a turn e told = let same : a ≡ turn = cc e in subst (ToldTurn s) same told
   unless_case (Some cause) s a turn e told = absurd cc
 
-module _ {S C : Type 0} (m : Meaning S C) (n me : ℕ) (s : Raft C) (reaches : s.commit ≤ length s.log) (within : s.covered ≤ s.commit) where
+module _ {S C : Type 0} (m : MachineSpec S C) (n me : ℕ) (s : Raft C) (reaches : s.commit ≤ length s.log) (within : s.covered ≤ s.commit) where
   proposed_case : (b : Bool) (command : C) (turn : RaftTurn C) → cond b (unless (admission_refusal m s command) (silent (extended s command))) (Err (refusals.NotLeader s.known)) ≡ Ok turn → ToldTurn s turn
   proposed_case true command turn e =
       unless_case (admission_refusal m s command) s (silent (extended s command)) turn e (one_more s (extended s command) (record { term = s.term; command = command }) refl)
@@ -145,11 +145,11 @@ module _ {S C : Type 0} (m : Meaning S C) (n me : ℕ) (s : Raft C) (reaches : s
 
   acted : (input : Input C) (turn : RaftTurn C) → acts m n me s input ≡ Ok turn → ToldTurn s turn
   acted (Arrives message) turn e =
-      if_ok (ltb message.from n) s (receives m.noop n me (met message.term s) message.from message.term message.body) turn refusals.OutOfRange e
+      if_ok (ltb message.from n) s (receives m.noop n me (term_observed message.term s) message.from message.term message.body) turn refusals.OutOfRange e
       (met_case (ltb s.term message.term) s (record s { term = message.term; vote = None; known = None; mode = Follower })
       (λ r. receives m.noop n me r message.from message.term message.body) refl refl refl reaches within
       (λ r p q. received r p q m.noop n me message.from message.term message.body))
-  acted Timeout turn e = stands_case (is_leader s.mode) (ltb s.term MAX && ltb (length s.log) MAX) n me s (to_others me (vote_request_to me (stood n me s)) n) turn e
+  acted Timeout turn e = stands_case (is_leader s.mode) (ltb s.term MAX && ltb (length s.log) MAX) n me s (to_others me (vote_request_to me (election_started n me s)) n) turn e
   acted Beat turn e = let same : record { server = s; sent = beats n me s s.mode } ≡ turn = cc e in subst (ToldTurn s) same (same_log s s refl)
   acted (Propose command) turn e = proposed_case (is_leader s.mode) command turn e
   acted Compact turn e = let same : silent (compacted s) ≡ turn = cc e in subst (ToldTurn s) same (same_log s (compacted s) refl)

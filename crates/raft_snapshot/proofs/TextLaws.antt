@@ -15,15 +15,15 @@ use Rattle.fields_model.proofs.FormatLaws.{bind_ok, ok_is, seq_inside, number_la
 use Rattle.fields_model.proofs.FieldLaws.{term_lawful, index_lawful}
 use Rattle.fields_model.proofs.PlacedLaws.{placed_lawful}
 use Rattle.fields_model.proofs.WholeTexts.{whole_found, no_text_begins_another}
-use Rattle.machine_model.specs.Meaning.{Meaning, LawfulMachine}
+use Rattle.machine_model.specs.MachineSpec.{MachineSpec, LawfulMachine}
 use Rattle.machine_model.specs.Entries.{entry}
 use Rattle.machine_model.specs.declared.entry.Entry.{Entry}
 use Rattle.machine_model.proofs.EntryLaws.{entry_lawful}
-use Rattle.raft_snapshot.specs.Bases.{IsSnapshot, blank}
+use Rattle.raft_snapshot.specs.Bases.{IsSnapshot, noop_prefix}
 use Rattle.raft_snapshot.specs.Stored.{Stored}
 use Rattle.raft_snapshot.specs.Texts.{vote, covered, most_behind, entries, Front, front, stored_of, parts_of, stable, stable_text, StableFits, IsStableText, agrees, state_offset, stable_at}
 use Rattle.raft_snapshot.specs.Inner.Faults.{moved_fault}
-use Rattle.raft_snapshot.proofs.Blanks.{blank-length}
+use Rattle.raft_snapshot.proofs.Blanks.{noop_prefix-length}
 
 -- ---- in front of the state
 
@@ -71,10 +71,10 @@ front_keeps commands lc bytes n t at behind end es fits is are =
 -- ---- the format
 
 -- what stands behind the blank entries is the rest
-behind_blank : {S C : Type 0} (m : Meaning S C) (f : Front C) → drop f.index (blank m f.index f.index_term ++ f.entries) ≡ f.entries
-behind_blank m f = drop_at (blank m f.index f.index_term) f.entries f.index (blank-length m f.index f.index_term [])
+behind_blank : {S C : Type 0} (m : MachineSpec S C) (f : Front C) → drop f.index (noop_prefix m f.index f.index_term ++ f.entries) ≡ f.entries
+behind_blank m f = drop_at (noop_prefix m f.index f.index_term) f.entries f.index (noop_prefix-length m f.index f.index_term [])
 
-parts_again : {S C : Type 0} (m : Meaning S C) (p : Front C × S) → parts_of (stored_of m p) ≡ p
+parts_again : {S C : Type 0} (m : MachineSpec S C) (p : Front C × S) → parts_of (stored_of m p) ≡ p
 parts_again {S} {C} m p =
     let made : List _ → Front C × S = λ (l : List _). (record { term = p.0.term; vote = p.0.vote; index = p.0.index; index_term = p.0.index_term; entries = l }, p.1) in
     ap made (behind_blank m p.0)
@@ -82,7 +82,7 @@ parts_again {S} {C} m p =
 some_is : {A : Type 0} (a b : A) → Some a ≡ Some b → a ≡ b
 some_is a b e = cc
 
-pub stable_lawful : {S C : Type 0} (m : Meaning S C) (version : ℕ) → Lawful (m.commands version) → Lawful (m.states version) → Lawful (stable m version)
+pub stable_lawful : {S C : Type 0} (m : MachineSpec S C) (version : ℕ) → Lawful (m.commands version) → Lawful (m.states version) → Lawful (stable m version)
 stable_lawful m version lc ls = coded_lawful _ parts_of _ (λ p s fits e. ap parts_of (sym (some_is _ s e)) ∙ parts_again m p) (then_lawful _ _ (front_lawful (m.commands version) lc) (placed_lawful (m.states version) ls))
 
 -- ---- the state and what it is to agree with
@@ -92,21 +92,21 @@ pub covered_tested : (n t : ℕ) → (n ≡ 0 → t ≡ 0) → (ltb 0 n || eqb t
 covered_tested zero t none = eq-eqb _ _ (none refl)
 covered_tested (suc n) t none = rw (lt-ltb 0 (suc n) (omega arith)) refl
 
-same_text : {S C : Type 0} (m : Meaning S C) → LawfulMachine m → (state : S) → (m.states newest).Fits state → (m.states newest).text state ≡ (m.states newest).text m.empty → state ≡ m.empty
+same_text : {S C : Type 0} (m : MachineSpec S C) → LawfulMachine m → (state : S) → (m.states newest).Fits state → (m.states newest).text state ≡ (m.states newest).text m.empty → state ≡ m.empty
 same_text m law state fits e = no_text_begins_another (m.states newest) (law.states_lawful newest) state m.empty [] [] fits law.empty_fits (ap (λ (l : List ℕ). l ++ []) e)
 
-agreed : {S C : Type 0} (m : Meaning S C) → LawfulMachine m → (n : ℕ) (state : S) → (m.states newest).Fits state → agrees m n state ≡ true → (m.count state ≡ n) × (n ≡ 0 → state ≡ m.empty)
+agreed : {S C : Type 0} (m : MachineSpec S C) → LawfulMachine m → (n : ℕ) (state : S) → (m.states newest).Fits state → agrees m n state ≡ true → (m.count state ≡ n) × (n ≡ 0 → state ≡ m.empty)
 agreed m law zero state fits is =
     let both = and_parts _ _ is in
     (eqb-true _ _ both.0, λ _. same_text m law state fits ((bytes_eq-Decides ((m.states newest).text state) ((m.states newest).text m.empty)).0 both.1))
 agreed m law (suc n) state fits is = (eqb-true _ _ (and_parts _ _ is).0, λ none. absurd (omega (arith, none)))
 
-agreeing : {S C : Type 0} (m : Meaning S C) (n : ℕ) (state : S) → m.count state ≡ n → (n ≡ 0 → state ≡ m.empty) → agrees m n state ≡ true
+agreeing : {S C : Type 0} (m : MachineSpec S C) (n : ℕ) (state : S) → m.count state ≡ n → (n ≡ 0 → state ≡ m.empty) → agrees m n state ≡ true
 agreeing m zero state count first = rw (eq-eqb _ _ count, (bytes_eq-Decides ((m.states newest).text state) ((m.states newest).text m.empty)).1 (ap (m.states newest).text (first refl))) refl
 agreeing m (suc n) state count first = rw (eq-eqb _ _ count, lt-ltb 0 (suc n) (omega arith)) refl
 
 -- a state that agrees is one that a snapshot has
-pub snapshot_of : {S C : Type 0} (m : Meaning S C) → LawfulMachine m → (n t : ℕ) (state : S) → (n ≡ 0 → t ≡ 0) → (m.states newest).Fits state → agrees m n state ≡ true → IsSnapshot m (record { index = n; term = t; state = state })
+pub snapshot_of : {S C : Type 0} (m : MachineSpec S C) → LawfulMachine m → (n t : ℕ) (state : S) → (n ≡ 0 → t ≡ 0) → (m.states newest).Fits state → agrees m n state ≡ true → IsSnapshot m (record { index = n; term = t; state = state })
 snapshot_of m law n t state none fits is = let a = agreed m law n state fits is in record { count = a.0; none = none; first = a.1 }
 
 -- ---- what is read has just these bytes, and what has a text is read from it
@@ -120,7 +120,7 @@ ended true true x y p q e = (refl, refl, cc)
 ended true false x y p q e = absurd cc
 ended false a x y p q e = absurd cc
 
-pub stable_found : {S C : Type 0} (m : Meaning S C) → LawfulMachine m → (bytes : List ℕ) (s : Stored S C) → IsBytes bytes → stable_at m bytes ≡ Ok s → IsStableText m s bytes
+pub stable_found : {S C : Type 0} (m : MachineSpec S C) → LawfulMachine m → (bytes : List ℕ) (s : Stored S C) → IsBytes bytes → stable_at m bytes ≡ Ok s → IsStableText m s bytes
 unfolding stable_at
 stable_found {S} {C} m law bytes s fits e =
     let last : ℕ → Stored S C × ℕ → Result (Stored S C) ℕ = λ (k : ℕ) (s : Stored S C × ℕ). cond (eqb s.1 (length bytes)) (cond (agrees m s.0.log.base.index s.0.log.base.state) (Ok s.0) (Err (state_offset m k bytes s.0.log.base.state))) (Err s.1) in
@@ -146,7 +146,7 @@ stable_found {S} {C} m law bytes s fits e =
 begins_with : (version : ℕ) → (1 ≤ version) × (version ≤ newest) → (number 1 1 (newest + 1)).Fits version
 begins_with version known = (known.0, omega (arith, known.1))
 
-pub stable_only : {S C : Type 0} (m : Meaning S C) → LawfulMachine m → (version : ℕ) (s : Stored S C) → StableFits m version s → stable_at m (stable_text m version s) ≡ Ok s
+pub stable_only : {S C : Type 0} (m : MachineSpec S C) → LawfulMachine m → (version : ℕ) (s : Stored S C) → StableFits m version s → stable_at m (stable_text m version s) ≡ Ok s
 unfolding stable_at
 stable_only m law version s fits =
     let text = (stable m version).text s in
@@ -158,14 +158,14 @@ stable_only m law version s fits =
     let fitting = agreeing m s.log.base.index s.log.base.state fits.snapshot.count fits.snapshot.first in
     rw (first, second, all, fitting) refl
 
-apart_in_one : {S C : Type 0} (m : Meaning S C) → LawfulMachine m → (version : ℕ) (s t : Stored S C) (x y : List ℕ) → StableFits m version s → StableFits m version t → stable_text m version s ++ x ≡ stable_text m version t ++ y → s ≡ t
+apart_in_one : {S C : Type 0} (m : MachineSpec S C) → LawfulMachine m → (version : ℕ) (s t : Stored S C) (x y : List ℕ) → StableFits m version s → StableFits m version t → stable_text m version s ++ x ≡ stable_text m version t ++ y → s ≡ t
 apart_in_one m law version s t x y fs ft e =
     let f = stable m version in
     let front = spelled 1 version in
     let behind = append_cancel_left front (f.text s ++ x) (f.text t ++ y) (sym (append_assoc front (f.text s) x) ∙ e ∙ append_assoc front (f.text t) y) in
     no_text_begins_another f (stable_lawful m version (law.commands_lawful version) (law.states_lawful version)) s t x y fs.fits ft.fits behind
 
-pub stable_apart : {S C : Type 0} (m : Meaning S C) → LawfulMachine m → (v w : ℕ) (s t : Stored S C) (x y : List ℕ) → StableFits m v s → StableFits m w t → stable_text m v s ++ x ≡ stable_text m w t ++ y → (v ≡ w) × (s ≡ t)
+pub stable_apart : {S C : Type 0} (m : MachineSpec S C) → LawfulMachine m → (v w : ℕ) (s t : Stored S C) (x y : List ℕ) → StableFits m v s → StableFits m w t → stable_text m v s ++ x ≡ stable_text m w t ++ y → (v ≡ w) × (s ≡ t)
 stable_apart {S} {C} m law v w s t x y fs ft e =
     let one = (stable m v).text s in
     let other = (stable m w).text t in
@@ -173,7 +173,7 @@ stable_apart {S} {C} m law v w s t x y fs ft e =
     let same : v ≡ w = no_text_begins_another (number 1 1 (newest + 1)) version_lawful v w (one ++ x) (other ++ y) (begins_with v fs.known) (begins_with w ft.known) behind in
     (same, apart_in_one m law w s t x y (subst (λ (k : ℕ). StableFits m k s) same fs) ft (subst (λ (k : ℕ). stable_text m k s ++ x ≡ stable_text m w t ++ y) same e))
 
-pub found_of : {S C : Type 0} (m : Meaning S C) → LawfulMachine m → (bytes : List ℕ) (r : Result (Stored S C) Refusal) → IsBytes bytes → Gives r (stable_at m bytes) → IfOk r (λ s. IsStableText m s bytes)
+pub found_of : {S C : Type 0} (m : MachineSpec S C) → LawfulMachine m → (bytes : List ℕ) (r : Result (Stored S C) Refusal) → IsBytes bytes → Gives r (stable_at m bytes) → IfOk r (λ s. IsStableText m s bytes)
 found_of m law bytes (Ok s) fits given = stable_found m law bytes s fits given
 found_of m law bytes (Err e) fits given = tt
 
@@ -230,23 +230,23 @@ fault_whole at size all (Ok x) more p le is e = elim (cases_eq x.1 size) [
 abbrev behind : {S C : Type 0} → Front C → S × ℕ → Result ((Front C × S) × ℕ) ℕ
 behind f s = Ok ((f, s.0), s.1)
 
-abbrev made : {S C : Type 0} → Meaning S C → (Front C × S) × ℕ → Result (Stored S C × ℕ) ℕ
+abbrev made : {S C : Type 0} → MachineSpec S C → (Front C × S) × ℕ → Result (Stored S C × ℕ) ℕ
 made m p = Ok (stored_of m p.0, p.1)
 
 -- what follows the front of a text is read behind it
-steps_after : {S C A : Type 0} (m : Meaning S C) (f : Front C) (r : Result (S × ℕ) ℕ) (more : Stored S C × ℕ → Result A ℕ)
+steps_after : {S C A : Type 0} (m : MachineSpec S C) (f : Front C) (r : Result (S × ℕ) ℕ) (more : Stored S C × ℕ → Result A ℕ)
     → ((r >>= behind f) >>= made m) >>= more ≡ (r >>= λ s. more (stored_of m (f, s.0), s.1))
 steps_after m f (Ok s) more = refl
 steps_after m f (Err place) more = refl
 
 -- the first byte and the front are read, and end within the bytes
-pub record ReadsFront {S C : Type 0} (m : Meaning S C) (bytes : List ℕ) (f : Front C) (at : ℕ) : Type 0 where
+pub record ReadsFront {S C : Type 0} (m : MachineSpec S C) (bytes : List ℕ) (f : Front C) (at : ℕ) : Type 0 where
   pub version : ℕ × ℕ
   pub version_read : number_at 1 1 (newest + 1) bytes 0 ≡ Ok version
   pub front_read : (front (m.commands version.0)).read bytes version.1 ≡ Ok (f, at)
   pub fits : IsBytes bytes
 
-module _ {S C : Type 0} (m : Meaning S C) (law : LawfulMachine m) (bytes : List ℕ) (f : Front C) (at : ℕ) (is : ReadsFront m bytes f at) where
+module _ {S C : Type 0} (m : MachineSpec S C) (law : LawfulMachine m) (bytes : List ℕ) (f : Front C) (at : ℕ) (is : ReadsFront m bytes f at) where
   abbrev version : ℕ
   version = is.version.0
 

@@ -1,13 +1,13 @@
 -- What a watcher makes of entries, and of one more.
 use Rattle.std.proofs.Common.{◌≡◌, ℕ, ◌+◌, ◌-◌, ◌<◌, ◌≤◌, List, [], ◌∷◌, ◌++◌, length, take, drop, get_or, refl, sym, ap, ◌∙◌, arith}
 use Rattle.std.proofs.lemmas.List.{take_more, drop-take}
-use Rattle.machine_model.specs.Meaning.{Meaning}
+use Rattle.machine_model.specs.MachineSpec.{MachineSpec}
 use Rattle.machine_model.specs.After.{after_from}
 use Rattle.machine_model.specs.declared.entry.Entry.{Entry}
 use Rattle.raft_model.specs.Logs.{commands}
 use Rattle.raft_snapshot.specs.Watching.{SeesAll}
 
-module _ {S C W : Type 0} (m : Meaning S C) (Sees : W → ℕ → Entry C → S → W → Type 0) (term : ℕ) where
+module _ {S C W : Type 0} (m : MachineSpec S C) (Sees : W → ℕ → Entry C → S → W → Type 0) (term : ℕ) where
   -- nothing is seen yet
   pub seen-none : (s : S) (es : List (Entry C)) (w : W) → SeesAll m Sees term s (take 0 es) w w
   seen-none s es w = refl

@@ -1,9 +1,9 @@
 pub mod Bases
 pub mod Changes
-pub mod Filled
+pub mod Prefixes
 pub mod Inner
 pub mod Kept
-pub mod Shown
+pub mod Compacted
 pub mod Stored
 pub mod Texts
 pub mod Watching

@@ -5,7 +5,7 @@ use Rattle.rows.specs.Versions.{newest}
 use Rattle.fields_model.specs.Format.{◌>>=◌, Format, spelled, number_at, number, ◌then◌, depends, made, list, coded, placed, kept as passing}
 use Rattle.fields_model.specs.Fields.{term, index}
 use Rattle.fields_model.specs.Services.{leader_of, leader_number}
-use Rattle.machine_model.specs.Meaning.{Meaning}
+use Rattle.machine_model.specs.MachineSpec.{MachineSpec}
 use Rattle.machine_model.specs.Entries.{entry}
 use Rattle.machine_model.specs.declared.entry.Entry.{Entry}
 use Rattle.raft_snapshot.specs.Bases.{IsSnapshot}
@@ -50,7 +50,7 @@ front commands = made
 -- ---- the whole
 
 -- what is stored, of what stands in front of the state, and the state
-abbrev pub stored_of : {S C : Type 0} → Meaning S C → Front C × S → Stored S C
+abbrev pub stored_of : {S C : Type 0} → MachineSpec S C → Front C × S → Stored S C
 stored_of m p = record {
   term = p.0.term;
   vote = p.0.vote;
@@ -65,39 +65,39 @@ parts_of s = (
 )
 
 -- what stands behind the version byte, in each version
-abbrev pub stable : {S C : Type 0} → Meaning S C → ℕ → Format (Stored S C)
+abbrev pub stable : {S C : Type 0} → MachineSpec S C → ℕ → Format (Stored S C)
 stable m version = coded (λ p. Some (stored_of m p)) parts_of (front (m.commands version) then placed (m.states version))
 
 -- the one text of what is stored in a version: the version, and what it says
-abbrev pub stable_text : {S C : Type 0} → Meaning S C → ℕ → Stored S C → List ℕ
+abbrev pub stable_text : {S C : Type 0} → MachineSpec S C → ℕ → Stored S C → List ℕ
 stable_text m version s = spelled 1 version ++ (stable m version).text s
 
 -- what has a text of a version, which is there: each part is within its range, the covered entries
 -- are blank, and the base is one that a snapshot has
-pub record StableFits {S C : Type 0} (m : Meaning S C) (version : ℕ) (s : Stored S C) : Type 0 where
+pub record StableFits {S C : Type 0} (m : MachineSpec S C) (version : ℕ) (s : Stored S C) : Type 0 where
   pub known : (1 ≤ version) × (version ≤ newest)
   pub fits : (stable m version).Fits s
   pub snapshot : IsSnapshot m s.log.base
 
 -- the bytes are the text of what is stored, which has one, in some version
-abbrev pub IsStableText : {S C : Type 0} → Meaning S C → Stored S C → List ℕ → Type 0
+abbrev pub IsStableText : {S C : Type 0} → MachineSpec S C → Stored S C → List ℕ → Type 0
 IsStableText m s bytes = (version : ℕ) × StableFits m version s × (bytes ≡ stable_text m version s)
 
 -- ---- reading
 
 -- the state has seen as many commands as entries are covered, and where none is, it is the first
 -- one: it has that one's text, as it is written
-abbrev pub agrees : {S C : Type 0} → Meaning S C → ℕ → S → Bool
+abbrev pub agrees : {S C : Type 0} → MachineSpec S C → ℕ → S → Bool
 agrees m n state = nat_eq (m.count state) n && (nat_lt 0 n || bytes_eq ((m.states newest).text state) ((m.states newest).text m.empty))
 
 -- where the state's text of a version begins, which ends the bytes
-abbrev pub state_offset : {S C : Type 0} → Meaning S C → ℕ → List ℕ → S → ℕ
+abbrev pub state_offset : {S C : Type 0} → MachineSpec S C → ℕ → List ℕ → S → ℕ
 state_offset m version bytes state = length bytes - length ((m.states version).text state)
 
 -- What is stored, of which these bytes are the text in the version that the first of them names, or
 -- the place of their first fault. Bytes left over come before a state that does not agree, which is
 -- at fault where it begins.
-unfoldable pub stable_at : {S C : Type 0} → Meaning S C → List ℕ → Result (Stored S C) ℕ
+unfoldable pub stable_at : {S C : Type 0} → MachineSpec S C → List ℕ → Result (Stored S C) ℕ
 stable_at m bytes =
     number_at 1 1 (newest + 1) bytes 0 >>= λ version.
     (stable m version.0).read bytes version.1 >>= λ s.

@@ -1,5 +1,5 @@
 ghost use Rattle.std.specs.Prelude.{◌≡◌, IfOk};
-ghost use Rattle.machine_model.specs.Meaning.{IsCommandOf};
+ghost use Rattle.machine_model.specs.MachineSpec.{IsCommandOf};
 
 use machine::{Machine, commands_are_whole};
 use rows::{NoMemory, Refusal, Version};
@@ -10,7 +10,7 @@ pub fn command_again<M: Machine>(
     alloc: Global,
     command: &M::Command,
 ) -> Result<M::Command, NoMemory>
-    ensures { IfOk result (λ again. (again ≡ command.now) × IsCommandOf M.meaning again) }
+    ensures { IfOk result (λ again. (again ≡ command.now) × IsCommandOf M.spec again) }
 {
     let mut text = Vec::new(alloc);
     M::write_command(command, &mut text)?;

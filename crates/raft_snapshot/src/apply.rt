@@ -18,9 +18,9 @@ fn apply_watched<M: Machine, W: Watch<M>>(
     entry: &Entry<Coded<M>>,
     watch: &mut W,
 ) -> Result<(), NoMemory>
-    requires { M.meaning.count machine.old + 1 < 2 ^ 40 }
+    requires { M.spec.count machine.old + 1 < 2 ^ 40 }
     ensures state { OnOk result (machine.new
-        ≡ M.meaning.applied machine.old entry.now.command) }
+        ≡ M.spec.applied machine.old entry.now.command) }
     ensures seen { OnOk result (W.sees watch.old term entry.now machine.new watch.new) }
 {
     machine.apply(entry.command.command())?;
@@ -34,11 +34,11 @@ fn apply_all_watched<M: Machine, W: Watch<M>>(
     entries: &[Entry<Coded<M>>],
     watch: &mut W,
 ) -> Result<(), NoMemory>
-    requires { M.meaning.count machine.old + length entries.now < 2 ^ 40 }
+    requires { M.spec.count machine.old + length entries.now < 2 ^ 40 }
     ensures state { OnOk result (machine.new
-        ≡ after_from M.meaning machine.old (commands entries.now)) }
+        ≡ after_from M.spec machine.old (commands entries.now)) }
     ensures seen { OnOk result
-        (SeesAll M.meaning W.sees term machine.old entries.now watch.old watch.new) }
+        (SeesAll M.spec W.sees term machine.old entries.now watch.old watch.new) }
 {
     for entry in entries {
         apply_watched(machine, term, entry, watch)?;
@@ -60,11 +60,11 @@ pub fn apply_range_watched<M: Machine, W: Watch<M>>(
     requires covered { log.now.base.index ≤ from }
     requires order { from ≤ to }
     requires within { to ≤ length log.now.entries }
-    requires state { machine.old ≡ state_from M.meaning log.now.base (take from log.now.entries) }
+    requires state { machine.old ≡ state_from M.spec log.now.base (take from log.now.entries) }
     ensures state { OnOk result
-        (machine.new ≡ state_from M.meaning log.now.base (take to log.now.entries)) }
-    ensures seen { OnOk result (SeesAll M.meaning W.sees term
-        (state_from M.meaning log.now.base (take from log.now.entries))
+        (machine.new ≡ state_from M.spec log.now.base (take to log.now.entries)) }
+    ensures seen { OnOk result (SeesAll M.spec W.sees term
+        (state_from M.spec log.now.base (take from log.now.entries))
         (drop from (take to log.now.entries)) watch.old watch.new) }
 {
     let _last = log.last();
@@ -86,8 +86,8 @@ pub(crate) fn apply_all<M: Machine>(
     machine: &mut M,
     entries: &[Entry<Coded<M>>],
 ) -> Result<(), NoMemory>
-    requires { M.meaning.count machine.old + length entries.now < 2 ^ 40 }
-    ensures { OnOk result (machine.new ≡ after_from M.meaning machine.old (commands entries.now)) }
+    requires { M.spec.count machine.old + length entries.now < 2 ^ 40 }
+    ensures { OnOk result (machine.new ≡ after_from M.spec machine.old (commands entries.now)) }
 {
     apply_all_watched(machine, first_term(), entries, &mut Unwatched)
 }
@@ -103,9 +103,9 @@ pub fn apply_range<M: Machine>(
     requires covered { log.now.base.index ≤ from }
     requires order { from ≤ to }
     requires within { to ≤ length log.now.entries }
-    requires state { machine.old ≡ state_from M.meaning log.now.base (take from log.now.entries) }
+    requires state { machine.old ≡ state_from M.spec log.now.base (take from log.now.entries) }
     ensures { OnOk result
-        (machine.new ≡ state_from M.meaning log.now.base (take to log.now.entries)) }
+        (machine.new ≡ state_from M.spec log.now.base (take to log.now.entries)) }
 {
     apply_range_watched(machine, first_term(), log, from, to, &mut Unwatched)
 }

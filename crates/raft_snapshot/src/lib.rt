@@ -8,7 +8,7 @@ mod apply;
 mod laws;
 mod log;
 mod merge;
-mod project;
+mod projecting;
 mod reading;
 mod snapshot;
 mod stable;
@@ -18,12 +18,12 @@ mod writing;
 pub use again::command_again;
 pub use apply::{apply_range, apply_range_watched};
 pub use laws::{
-    changes_lead, servers_are_shown, snapshots_are_received, stable_texts_are_whole,
-    steps_are_filled, steps_keep_terms_told,
+    changes_lead, compactions_refine_servers, snapshots_are_received, stable_texts_are_whole,
+    steps_keep_prefixes, steps_keep_terms_told,
 };
 pub use log::Log;
-pub use merge::adopt;
-pub use project::{bring_on, projection};
+pub use merge::append_entries;
+pub use projecting::{project, project_next};
 pub use reading::{Front, read_change, read_stable, take_change};
 pub use snapshot::Snapshot;
 pub use stable::Stable;

@@ -3,7 +3,7 @@ mod copies;
 ghost use Rattle.std.specs.Prelude.{◌≡◌, ◌+◌, ◌-◌, ◌++◌, ◌∷◌, [], ◌^◌, ◌<◌, ◌≤◌, ◌⊎◌, ◌||◌, List, length, take, drop, OnOk, OnErr, IfSome, MatchOption, nat_le};
 ghost use Rattle.machine_model.specs.declared.entry.Entry.{Entry};
 ghost use Rattle.raft_model.specs.Logs.{term_at, last_term, has, install, state_after};
-ghost use Rattle.raft_snapshot.specs.Bases.{IsBaseOf, IsSnapshot, blank};
+ghost use Rattle.raft_snapshot.specs.Bases.{IsBaseOf, IsSnapshot, noop_prefix};
 ghost use Rattle.raft_snapshot.specs.Kept.{kept, IsLogOf};
 
 use crate::snapshot::Snapshot;
@@ -27,9 +27,9 @@ impl<M: Machine> Model for Log<M> {
 
     ghost Value = { Kept M M.Command };
 
-    ghost view = { λ a. kept M.meaning a.base a.tail.items };
+    ghost view = { λ a. kept M.spec a.base a.tail.items };
 
-    ghost invariant = { λ a. IsKept M.meaning a.base a.tail.items };
+    ghost invariant = { λ a. IsKept M.spec a.base a.tail.items };
 }
 
 /// Cuts the list and puts others behind what stays, or changes nothing.
@@ -57,8 +57,8 @@ impl<M: Machine> Log<M> {
     /// The log of no entries. It takes no memory.
     pub fn new(alloc: Global) -> Log<M>
         ensures none { result.entries ≡ [] }
-        ensures base { result.base ≡ record { index = 0; term = 0; state = M.meaning.empty } }
-        ensures whole { IsLogOf M.meaning result [] }
+        ensures base { result.base ≡ record { index = 0; term = 0; state = M.spec.empty } }
+        ensures whole { IsLogOf M.spec result [] }
     {
         Log {
             base: Snapshot::empty(alloc),
@@ -69,7 +69,7 @@ impl<M: Machine> Log<M> {
     /// The log of what a snapshot covers, and of the entries behind that.
     pub(crate) fn of(base: Snapshot<M>, tail: Vec<Entry<Coded<M>>>) -> Log<M>
         requires { base.index + length tail.items < 2 ^ 40 }
-        ensures { result ≡ kept M.meaning base tail.items }
+        ensures { result ≡ kept M.spec base tail.items }
     {
         let _index = base.index();
         Log { base, tail }
@@ -78,7 +78,7 @@ impl<M: Machine> Log<M> {
     /// The entries behind what is covered.
     pub(crate) fn tail(&self) -> &[Entry<Coded<M>>]
         ensures value { result.now ≡ drop self.now.base.index self.now.entries }
-        ensures shows { self.now ≡ kept M.meaning self.now.base result.now }
+        ensures shows { self.now ≡ kept M.spec self.now.base result.now }
         ensures short { self.now.base.index + length result.now < 2 ^ 40 }
     {
         &self.tail
@@ -88,7 +88,7 @@ impl<M: Machine> Log<M> {
     pub fn last(&self) -> Index
         ensures value { result ≡ length self.now.entries }
         ensures covered { self.now.base.index ≤ result }
-        ensures whole { (L : List (Entry M.Command)) → IsLogOf M.meaning self.now L →
+        ensures whole { (L : List (Entry M.Command)) → IsLogOf M.spec self.now L →
             result ≡ length L }
     {
         match Index::new(self.base.index().get() + self.tail.len() as u64) {
@@ -100,7 +100,7 @@ impl<M: Machine> Log<M> {
     /// The term of the last entry, which is known also where it is covered; 0 where there is none.
     pub fn last_term(&self) -> Term
         ensures value { result ≡ last_term self.now.entries }
-        ensures whole { (L : List (Entry M.Command)) → IsLogOf M.meaning self.now L →
+        ensures whole { (L : List (Entry M.Command)) → IsLogOf M.spec self.now L →
             result ≡ last_term L }
     {
         match self.term_at(self.last().get()) {
@@ -115,7 +115,7 @@ impl<M: Machine> Log<M> {
         ensures value { MatchOption result ((1 ≤ index) × (index < self.now.base.index))
             (λ t. ((index ≡ 0) ⊎ (self.now.base.index ≤ index))
             × (t ≡ term_at self.now.entries index)) }
-        ensures whole { (L : List (Entry M.Command)) → IsLogOf M.meaning self.now L →
+        ensures whole { (L : List (Entry M.Command)) → IsLogOf M.spec self.now L →
             IfSome result (λ t. t ≡ term_at L index) }
     {
         if index == 0 {
@@ -139,7 +139,7 @@ impl<M: Machine> Log<M> {
     pub fn holds(&self, index: u64, term: Term) -> bool
         requires { self.now.base.index ≤ index }
         ensures value { result ≡ has self.now.entries index term }
-        ensures whole { (L : List (Entry M.Command)) → IsLogOf M.meaning self.now L →
+        ensures whole { (L : List (Entry M.Command)) → IsLogOf M.spec self.now L →
             result ≡ has L index term }
     {
         if index > self.last().get() {
@@ -164,7 +164,7 @@ impl<M: Machine> Log<M> {
     pub fn behind(&self, index: u64) -> &[Entry<Coded<M>>]
         requires { self.now.base.index ≤ index }
         ensures value { result.now ≡ drop index self.now.entries }
-        ensures whole { (L : List (Entry M.Command)) → IsLogOf M.meaning self.now L →
+        ensures whole { (L : List (Entry M.Command)) → IsLogOf M.spec self.now L →
             result.now ≡ drop index L }
     {
         let start = (index - self.base.index().get()).min(self.tail.len() as u64);
@@ -178,7 +178,7 @@ impl<M: Machine> Log<M> {
         ensures ok { OnOk result (self.new.entries ≡ self.old.entries ++ entry ∷ []) }
         ensures err { OnErr result (self.new ≡ self.old) }
         ensures whole { OnOk result ((L : List (Entry M.Command)) →
-            IsLogOf M.meaning self.old L → IsLogOf M.meaning self.new (L ++ entry ∷ [])) }
+            IsLogOf M.spec self.old L → IsLogOf M.spec self.new (L ++ entry ∷ [])) }
     {
         self.tail.push(entry)?;
         Ok(())
@@ -189,8 +189,8 @@ impl<M: Machine> Log<M> {
         requires { self.old.base.index < index }
         ensures base { self.new.base ≡ self.old.base }
         ensures cut { self.new.entries ≡ take (index - 1) self.old.entries }
-        ensures whole { (L : List (Entry M.Command)) → IsLogOf M.meaning self.old L →
-            IsLogOf M.meaning self.new (take (index - 1) L) }
+        ensures whole { (L : List (Entry M.Command)) → IsLogOf M.spec self.old L →
+            IsLogOf M.spec self.new (take (index - 1) L) }
     {
         self.tail
             .truncate((index - self.base.index().get()) as usize - 1);
@@ -206,8 +206,8 @@ impl<M: Machine> Log<M> {
         ensures ok { OnOk result (self.new.entries ≡ take index self.old.entries ++ more.items) }
         ensures err { OnErr result (self.new ≡ self.old) }
         ensures whole { OnOk result ((L : List (Entry M.Command)) →
-            IsLogOf M.meaning self.old L →
-            IsLogOf M.meaning self.new (take index L ++ more.items)) }
+            IsLogOf M.spec self.old L →
+            IsLogOf M.spec self.new (take index L ++ more.items)) }
     {
         replace_tail(
             &mut self.tail,
@@ -221,9 +221,9 @@ impl<M: Machine> Log<M> {
         ensures value { result ≡ self.now.base.index }
         ensures within { result ≤ length self.now.entries }
         ensures term { self.now.base.term ≡ term_at self.now.entries self.now.base.index }
-        ensures blank { self.now.entries ≡ blank M.meaning self.now.base.index
+        ensures noop_prefix { self.now.entries ≡ noop_prefix M.spec self.now.base.index
             self.now.base.term ++ drop self.now.base.index self.now.entries }
-        ensures keeps { IsSnapshot M.meaning self.now.base }
+        ensures keeps { IsSnapshot M.spec self.now.base }
     {
         self.base.index()
     }
@@ -231,8 +231,8 @@ impl<M: Machine> Log<M> {
     /// The state after what is covered.
     pub fn state(&self) -> &M
         ensures value { result.now ≡ self.now.base.state }
-        ensures whole { (L : List (Entry M.Command)) → IsLogOf M.meaning self.now L →
-            result.now ≡ state_after M.meaning (take self.now.base.index L) }
+        ensures whole { (L : List (Entry M.Command)) → IsLogOf M.spec self.now L →
+            result.now ≡ state_after M.spec (take self.now.base.index L) }
     {
         self.base.state()
     }
@@ -249,14 +249,15 @@ impl<M: Machine> Log<M> {
     pub fn compact(&mut self, index: Index, state: M)
         requires covered { self.old.base.index ≤ index }
         requires within { index ≤ length self.old.entries }
-        requires counted { M.meaning.count state ≡ index }
-        requires first { index ≡ 0 → state ≡ M.meaning.empty }
+        requires counted { M.spec.count state ≡ index }
+        requires first { index ≡ 0 → state ≡ M.spec.empty }
         ensures base { self.new.base ≡
             record { index = index; term = term_at self.old.entries index; state = state } }
         ensures shows { self.new.entries ≡
-            blank M.meaning index (term_at self.old.entries index) ++ drop index self.old.entries }
-        ensures whole { (L : List (Entry M.Command)) → IsLogOf M.meaning self.old L →
-            state_after M.meaning (take index L) ≡ state → IsLogOf M.meaning self.new L }
+            noop_prefix M.spec index (term_at self.old.entries index)
+            ++ drop index self.old.entries }
+        ensures whole { (L : List (Entry M.Command)) → IsLogOf M.spec self.old L →
+            state_after M.spec (take index L) ≡ state → IsLogOf M.spec self.new L }
     {
         let Some(term) = self.term_at(index.get()) else {
             unreachable!()
@@ -272,10 +273,10 @@ impl<M: Machine> Log<M> {
         requires { self.old.base.index ≤ snapshot.index }
         ensures base { self.new.base ≡ snapshot }
         ensures shows { self.new.entries ≡
-            install self.old.entries (blank M.meaning snapshot.index snapshot.term) }
-        ensures whole { (L : List (Entry M.Command)) → IsLogOf M.meaning self.old L →
-            (P : List (Entry M.Command)) → IsBaseOf M.meaning snapshot P →
-            IsLogOf M.meaning self.new (install L P) }
+            install self.old.entries (noop_prefix M.spec snapshot.index snapshot.term) }
+        ensures whole { (L : List (Entry M.Command)) → IsLogOf M.spec self.old L →
+            (P : List (Entry M.Command)) → IsBaseOf M.spec snapshot P →
+            IsLogOf M.spec self.new (install L P) }
     {
         let index = snapshot.index().get();
         if self.holds(index, snapshot.term()) {
@@ -293,7 +294,7 @@ impl<M: Machine> Log<M> {
         requires short { snapshot.index + (length self.old.entries
             - (self.old.base.index + gone)) < 2 ^ 40 }
         ensures { self.new ≡
-            kept M.meaning snapshot (drop (self.old.base.index + gone) self.old.entries) }
+            kept M.spec snapshot (drop (self.old.base.index + gone) self.old.entries) }
     {
         drop_front(&mut self.tail, gone);
         self.base = snapshot;

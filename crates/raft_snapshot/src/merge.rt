@@ -54,10 +54,10 @@ fn splice<M: Machine>(
     requires reach { risen ≤ keep + length tail.items }
     requires short { keep + length tail.items < 2 ^ 40 }
     requires state { machine.old
-        ≡ state_from M.meaning log.old.base (take commit log.old.entries) }
+        ≡ state_from M.spec log.old.base (take commit log.old.entries) }
     ensures base { log.new.base ≡ log.old.base }
     ensures ok { OnOk result (log.new.entries ≡ take keep log.old.entries ++ tail.items) }
-    ensures state { OnOk result (machine.new ≡ state_from M.meaning log.old.base
+    ensures state { OnOk result (machine.new ≡ state_from M.spec log.old.base
         (take risen (take keep log.old.entries ++ tail.items))) }
     ensures err { OnErr result (log.new ≡ log.old) }
 {
@@ -85,7 +85,7 @@ fn rest_of<T: Drop>(mut entries: Vec<T>, k: usize) -> Result<Vec<T>, NoMemory>
 /// Makes the log what a leader's entries make it, the machine brought on first to `risen` of its
 /// entries. Want of memory leaves the log as it was, and the machine fit only to be dropped. (Raft,
 /// Figure 2, AppendEntries, receiver 3 to 5.)
-pub fn adopt<M: Machine>(
+pub fn append_entries<M: Machine>(
     log: &mut Log<M>,
     machine: &mut M,
     commit: u64,
@@ -100,12 +100,12 @@ pub fn adopt<M: Machine>(
     requires rises { commit ≤ risen }
     requires reach { risen ≤ max commit (prev + length entries.items) }
     requires state { machine.old
-        ≡ state_from M.meaning log.old.base (take commit log.old.entries) }
+        ≡ state_from M.spec log.old.base (take commit log.old.entries) }
     ensures base { log.new.base ≡ log.old.base }
     ensures ok { OnOk result
         (log.new.entries ≡ merge commit prev log.old.entries entries.items) }
     ensures state { OnOk result
-        (machine.new ≡ state_from M.meaning log.old.base (take risen log.new.entries)) }
+        (machine.new ≡ state_from M.spec log.old.base (take risen log.new.entries)) }
     ensures within { OnOk result (risen ≤ length log.new.entries) }
     ensures err { OnErr result (log.new ≡ log.old) }
 {

@@ -102,7 +102,7 @@ fn read_entries<M: Machine>(
     at: usize,
     index: Index,
 ) -> Result<(Sequence<Entry<Coded<M>>>, usize), Refusal>
-    ensures { Gives result ((entries (M.meaning.commands version) index).read bytes.now at) }
+    ensures { Gives result ((entries (M.spec.commands version) index).read bytes.now at) }
 {
     let (count, next) = read_count(bytes, at, index)?;
     read_items(version, alloc, bytes, next, count)
@@ -115,7 +115,7 @@ fn read_front<M: Machine>(
     bytes: &[u8],
     at: usize,
 ) -> Result<(Front<M>, usize), Refusal>
-    ensures { Gives result ((front (M.meaning.commands version)).read bytes.now at) }
+    ensures { Gives result ((front (M.spec.commands version)).read bytes.now at) }
 {
     let (term, at) = read_term(bytes, at)?;
     let (vote, at) = read_vote(bytes, at)?;
@@ -141,7 +141,7 @@ pub fn read_change<M: Machine>(
     bytes: &[u8],
     at: usize,
 ) -> Result<(Front<M>, usize), Refusal>
-    ensures { Gives result ((front (M.meaning.commands newest)).read bytes.now at) }
+    ensures { Gives result ((front (M.spec.commands newest)).read bytes.now at) }
 {
     read_front(Version::newest(), alloc, bytes, at)
 }
@@ -182,7 +182,7 @@ fn read_state<M: Machine>(
     at: usize,
 ) -> Result<M, Refusal>
     requires { at + length text.now < 2 ^ 64 }
-    ensures { Gives result (moved_fault at (whole (M.meaning.states version) text.now)) }
+    ensures { Gives result (moved_fault at (whole (M.spec.states version) text.now)) }
 {
     match M::load(version, alloc, text) {
         Ok(state) => Ok(state),
@@ -194,8 +194,8 @@ fn read_state<M: Machine>(
 /// Whether this is the machine's first state: it is written as that one is.
 fn is_first<M: Machine>(alloc: Global, state: &M) -> Result<bool, NoMemory>
     ensures { IfOk result (λ is. is
-        ≡ bytes_eq ((M.meaning.states newest).text state.now)
-        ((M.meaning.states newest).text M.meaning.empty)) }
+        ≡ bytes_eq ((M.spec.states newest).text state.now)
+        ((M.spec.states newest).text M.spec.empty)) }
 {
     let mut text = Vec::new(alloc);
     state.save(&mut text)?;
@@ -207,7 +207,7 @@ fn is_first<M: Machine>(alloc: Global, state: &M) -> Result<bool, NoMemory>
 
 /// Whether a state has seen as many commands, and is the first one where that is none.
 fn agrees<M: Machine>(alloc: Global, index: Index, state: &M) -> Result<bool, NoMemory>
-    ensures { IfOk result (λ is. is ≡ agrees M.meaning index state.now) }
+    ensures { IfOk result (λ is. is ≡ agrees M.spec index state.now) }
 {
     if state.count() != index.get() {
         return Ok(false);
@@ -220,9 +220,9 @@ fn agrees<M: Machine>(alloc: Global, index: Index, state: &M) -> Result<bool, No
 
 /// What is stored, of what stands in front of the state, and the state.
 fn stable_of<M: Machine>(front: Front<M>, state: M) -> Stable<M>
-    requires { IsSnapshot M.meaning
+    requires { IsSnapshot M.spec
         (record { index = front.index; term = front.index_term; state = state }) }
-    ensures { result ≡ stored_of M.meaning (front, state) }
+    ensures { result ≡ stored_of M.spec (front, state) }
 {
     let Front {
         term,
@@ -238,7 +238,7 @@ fn stable_of<M: Machine>(front: Front<M>, state: M) -> Stable<M>
 /// What is stored, or the first fault.
 #[tactic(auto, unfolding(crate::specs::Texts::stable_at))]
 fn read_text<M: Machine>(alloc: Global, bytes: &[u8]) -> Result<Stable<M>, Refusal>
-    ensures { Gives result (stable_at M.meaning bytes.now) }
+    ensures { Gives result (stable_at M.spec bytes.now) }
 {
     let (version, at) = read_version(bytes)?;
     let (front, at) = read_front(version, alloc, bytes, at)?;
@@ -263,12 +263,12 @@ fn read_text<M: Machine>(alloc: Global, bytes: &[u8]) -> Result<Stable<M>, Refus
 /// It takes memory for what it reads, and never for a count that it has only read.
 pub fn read_stable<M: Machine>(alloc: Global, bytes: &[u8]) -> Result<Stable<M>, Refusal>
     // What is read has just these bytes, in some version.
-    ensures found { IfOk result (λ s. IsStableText M.meaning s bytes.now) }
+    ensures found { IfOk result (λ s. IsStableText M.spec s bytes.now) }
     // What has a text in a version is read from it, unless memory runs out.
-    ensures only { (version : ℕ) (s : Stored M M.Command) → StableFits M.meaning version s
-        → bytes.now ≡ stable_text M.meaning version s → Gives result (Ok s) }
+    ensures only { (version : ℕ) (s : Stored M M.Command) → StableFits M.spec version s
+        → bytes.now ≡ stable_text M.spec version s → Gives result (Ok s) }
     // Which field is at fault.
-    ensures exact { Gives result (stable_at M.meaning bytes.now) }
+    ensures exact { Gives result (stable_at M.spec bytes.now) }
 {
     read_text(alloc, bytes)
 }

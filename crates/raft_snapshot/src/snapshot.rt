@@ -24,7 +24,7 @@ impl<M: Machine> Model for Snapshot<M> {
 
     ghost view = { λ a. record { index = a.index; term = a.term; state = a.state } };
 
-    ghost invariant = { λ a. IsSnapshot M.meaning (record { index = a.index; term = a.term; state = a.state }) };
+    ghost invariant = { λ a. IsSnapshot M.spec (record { index = a.index; term = a.term; state = a.state }) };
 }
 
 impl<M: Machine> Snapshot<M> {
@@ -33,8 +33,8 @@ impl<M: Machine> Snapshot<M> {
     /// entry (that is `empty`); what was handed in is then used up. It takes no memory.
     pub fn new(index: Index, term: Term, state: M) -> Option<Snapshot<M>>
         ensures { MatchOption result
-            ((index ≡ 0) ⊎ (M.meaning.count state ≢ index))
-            (λ s. (1 ≤ index) × (M.meaning.count state ≡ index)
+            ((index ≡ 0) ⊎ (M.spec.count state ≢ index))
+            (λ s. (1 ≤ index) × (M.spec.count state ≡ index)
             × (s ≡ record { index = index; term = term; state = state })) }
     {
         if index.get() == 0 || state.count() != index.get() {
@@ -45,7 +45,7 @@ impl<M: Machine> Snapshot<M> {
 
     /// The same, of what is known to be one.
     pub(crate) fn of(index: Index, term: Term, state: M) -> Snapshot<M>
-        requires { IsSnapshot M.meaning (record { index = index; term = term; state = state }) }
+        requires { IsSnapshot M.spec (record { index = index; term = term; state = state }) }
         ensures value { result ≡ record { index = index; term = term; state = state } }
     {
         Snapshot { index, term, state }
@@ -53,8 +53,8 @@ impl<M: Machine> Snapshot<M> {
 
     /// The snapshot of no entries. It takes no memory.
     pub fn empty(alloc: Global) -> Snapshot<M>
-        ensures value { result ≡ record { index = 0; term = 0; state = M.meaning.empty } }
-        ensures keeps { IsSnapshot M.meaning result }
+        ensures value { result ≡ record { index = 0; term = 0; state = M.spec.empty } }
+        ensures keeps { IsSnapshot M.spec result }
     {
         Snapshot {
             index: Index::ZERO,
@@ -66,7 +66,7 @@ impl<M: Machine> Snapshot<M> {
     /// How many entries it covers: the index of the last one.
     pub fn index(&self) -> Index
         ensures value { result ≡ self.now.index }
-        ensures keeps { IsSnapshot M.meaning self.now }
+        ensures keeps { IsSnapshot M.spec self.now }
     {
         self.index
     }

@@ -33,7 +33,7 @@ impl<M: Machine> Stable<M> {
         ensures { result ≡ record {
           term = 0;
           vote = None;
-          log = kept M.meaning (record { index = 0; term = 0; state = M.meaning.empty }) [];
+          log = kept M.spec (record { index = 0; term = 0; state = M.spec.empty }) [];
         } }
     {
         Stable {

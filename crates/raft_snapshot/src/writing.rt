@@ -49,7 +49,7 @@ fn append_entries<M: Machine>(
     out: &mut Vec<u8>,
 ) -> Result<(), NoMemory>
     requires { index + length behind.now < 2 ^ 40 }
-    ensures { Puts (entries (M.meaning.commands newest) index) behind.now result
+    ensures { Puts (entries (M.spec.commands newest) index) behind.now result
         out.old.items out.new.items }
 {
     write_u64(&(behind.len() as u64), out)?;
@@ -68,7 +68,7 @@ fn append_change<M: Machine>(
 ) -> Result<(), NoMemory>
     requires covered { log.now.base.index ≤ keep }
     requires within { keep ≤ length log.now.entries }
-    ensures { Puts (front (M.meaning.commands newest)) (log_change term voted log.now keep) result
+    ensures { Puts (front (M.spec.commands newest)) (log_change term voted log.now keep) result
         out.old.items out.new.items }
 {
     let _last = log.last();
@@ -93,9 +93,9 @@ pub fn write_change<M: Machine>(
 ) -> Result<(), NoMemory>
     requires covered { log.now.base.index ≤ keep }
     requires within { keep ≤ length log.now.entries }
-    ensures ok { OnOk result ((front (M.meaning.commands newest)).Fits (log_change term vote log.now keep)
+    ensures ok { OnOk result ((front (M.spec.commands newest)).Fits (log_change term vote log.now keep)
         × (out.new.items ≡ out.old.items
-        ++ (front (M.meaning.commands newest)).text (log_change term vote log.now keep))) }
+        ++ (front (M.spec.commands newest)).text (log_change term vote log.now keep))) }
     ensures err { OnErr result (out.new.items ≡ out.old.items) }
 {
     let start = out.len();
@@ -115,8 +115,8 @@ fn append_parts<M: Machine>(
     out: &mut Vec<u8>,
 ) -> Result<(), NoMemory>
     ensures ok { let stored : Stored M M.Command = record { term = term; vote = voted; log = log.now } in
-        OnOk result (StableFits M.meaning newest stored
-        × (out.new.items ≡ out.old.items ++ stable_text M.meaning newest stored)) }
+        OnOk result (StableFits M.spec newest stored
+        × (out.new.items ≡ out.old.items ++ stable_text M.spec newest stored)) }
     ensures err { OnErr result (Grows out.old.items out.new.items) }
 {
     let _last = log.last();
@@ -133,8 +133,8 @@ pub fn write_parts<M: Machine>(
     out: &mut Vec<u8>,
 ) -> Result<(), NoMemory>
     ensures ok { let stored : Stored M M.Command = record { term = term; vote = vote; log = log.now } in
-        OnOk result (StableFits M.meaning newest stored
-        × (out.new.items ≡ out.old.items ++ stable_text M.meaning newest stored)) }
+        OnOk result (StableFits M.spec newest stored
+        × (out.new.items ≡ out.old.items ++ stable_text M.spec newest stored)) }
     ensures err { OnErr result (out.new.items ≡ out.old.items) }
 {
     let start = out.len();
@@ -149,8 +149,8 @@ pub fn write_parts<M: Machine>(
 /// the newest, the term, the vote, how many entries are covered, the last one's term, the entries
 /// behind them, and the state after those that are covered.
 pub fn write_stable<M: Machine>(stable: &Stable<M>, out: &mut Vec<u8>) -> Result<(), NoMemory>
-    ensures ok { OnOk result (StableFits M.meaning newest stable.now
-        × (out.new.items ≡ out.old.items ++ stable_text M.meaning newest stable.now)) }
+    ensures ok { OnOk result (StableFits M.spec newest stable.now
+        × (out.new.items ≡ out.old.items ++ stable_text M.spec newest stable.now)) }
     ensures err { OnErr result (out.new.items ≡ out.old.items) }
 {
     write_parts(stable.term(), stable.vote(), stable.log(), out)

@@ -3,7 +3,7 @@ use Rattle.std.proofs.Common.{◌≡◌, ◌≢◌, ℕ, zero, suc, ◌+◌, ◌
 use Rattle.std.proofs.lemmas.Bool.Decides.{leb_tells, eqb_tells}
 use Rattle.std.proofs.lemmas.List.{map-append}
 use Rattle.std.proofs.lemmas.Option.{same_Some}
-use Rattle.machine_model.specs.Meaning.{Meaning}
+use Rattle.machine_model.specs.MachineSpec.{MachineSpec}
 use Rattle.raft_model.specs.Quorums.{count, Quorum}
 use Rattle.raft_model.specs.Rafts.{Raft, is_up, silent, restarted}
 use Rattle.raft_model.specs.Steps.{Restart, step}
@@ -14,7 +14,7 @@ use Rattle.raft_progress.specs.Recovery.{HasRoom, everybody, CanSettle}
 use Rattle.raft_progress.proofs.Moves.{own_turn, turned, get_set-other}
 use Rattle.recovery.specs.Runs.{up_there, is_up_in}
 use Rattle.recovery.specs.Restarting.{downs}
-use Rattle.recovery.specs.Inner.Wakings.{IsDown, KeepsStored}
+use Rattle.recovery.specs.Inner.DownServers.{IsDown, KeepsStored}
 
 pub nil_end : {A : Type 0} (l : List A) → l ++ [] ≡ l
 nil_end [] = refl
@@ -82,7 +82,7 @@ few_down (suc k) w = elim (bool_cases (is_up_in w k)) [
   | inr b ↦ omega (arith, ap length (down_next k w b), push_length (downs k w) k, few_down k w)
 ]
 
-module _ {S C : Type 0} (m : Meaning S C) where
+module _ {S C : Type 0} (m : MachineSpec S C) where
   -- the world after a restart
   abbrev after : World C → ℕ → Raft C → World C
   after x k s = turned m (length x.servers) x k (silent (restarted s))

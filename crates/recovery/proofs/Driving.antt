@@ -2,7 +2,7 @@
 use Rattle.std.proofs.Common.{◌≡◌, ℕ, suc, ◌+◌, ◌-◌, ◌*◌, ◌<◌, ◌≤◌, inl, inr, true, false, Bool, Some, Ok, List, [], ◌∷◌, ◌++◌, length, refl, sym, ap, ◌∙◌, subst, arith, slice_get, append_assoc, true≢false}
 use Rattle.std.proofs.lemmas.Option.{same_Some}
 use Rattle.rows.specs.GroupSizes.{IsGroup}
-use Rattle.machine_model.specs.Meaning.{Meaning, LawfulMachine}
+use Rattle.machine_model.specs.MachineSpec.{MachineSpec, LawfulMachine}
 use Rattle.raft_model.specs.Messages.{Message}
 use Rattle.raft_model.specs.Rafts.{Raft, is_leader}
 use Rattle.raft_model.specs.Worlds.{World, Event, Deliver, TimesOut, Beats, happens, receiver}
@@ -15,7 +15,7 @@ use Rattle.recovery.specs.declared.calm_event.CalmEvent.TheVariants as calms
 use Rattle.recovery.specs.declared.unsettled.Unsettled.{Unsettled}
 use Rattle.recovery.specs.declared.unsettled.Unsettled.TheVariants.{NoQuorum, Exhausted, NoMemory, Crashed}
 use Rattle.recovery.specs.Runs.{is_up_in, Settles}
-use Rattle.recovery.specs.Inner.Spreads.{Ready, Way, Came, CanSwap, CanExchange, SwapDone, not_up, both, CanAct, ActDone, it_beats, it_stands, SpreadSoFar, SpreadDone, LedDone, Leading, ConfirmSoFar, AppliedDone, AllApplied, Chosen, Highest, IsBehind, CanHear, Risen, seat}
+use Rattle.recovery.specs.Inner.Spreads.{Ready, Way, Came, CanSwap, CanExchange, SwapDone, not_up, both, CanBeatOrTimeOut, ActDone, it_beats, it_stands, SpreadSoFar, SpreadDone, LedDone, Leading, ConfirmSoFar, AppliedDone, AllApplied, Chosen, Highest, IsBehind, CanObserveNewerTerm, Risen, seat}
 use Rattle.recovery.specs.Inner.Drives.{Drive, LawfulDrive, EverOf, Ever, EverAt, KnownOf, Known, KnownAt, Trail, Drove, WentOf, Went, WentAt, CanGo, HasGone, NothingYet, NotTaken, IsWithin, SwapStops, CameBy, Stops}
 use Rattle.recovery.specs.Inner.Goings.{QuorumIsUp, RoomIsThere, WhyDriveUnsettled, leader_there, leads_in, ForServer, ForNobody, IsOf}
 use Rattle.recovery.proofs.Spreads.{may_act}
@@ -27,14 +27,14 @@ use Rattle.recovery.proofs.Goings.{nil_end, trail_one, trail_sent, trail_at, dro
 
 -- A round so far, by places of all messages: those below this one were delivered, of those that were
 -- sent before `end`.
-pub record SpreadTold {V S C : Type 0} (m : Meaning S C) (d : Drive V S C) (i place end : ℕ) (ts : List d.Own) (w x : d.Moment) : Type 0 where
+pub record SpreadTold {V S C : Type 0} (m : MachineSpec S C) (d : Drive V S C) (i place end : ℕ) (ts : List d.Own) (w x : d.Moment) : Type 0 where
   pub below : ℕ
   pub all : ℕ
   pub at : place ≡ d.sent w + below
   pub ends : end ≡ d.sent w + all
   pub drove : Drove d ts w x (λ es y z. SpreadSoFar m i (length y.sent + below) (length y.sent + all) es y z)
 
-module _ {V S C : Type 0} (m : Meaning S C) (d : Drive V S C) (dl : LawfulDrive m d) where
+module _ {V S C : Type 0} (m : MachineSpec S C) (d : Drive V S C) (dl : LawfulDrive m d) where
   -- ---- how far it came
 
   came_none : (i : ℕ) (w : World C) → Came m i [] w w
@@ -80,7 +80,7 @@ module _ {V S C : Type 0} (m : Meaning S C) (d : Drive V S C) (dl : LawfulDrive 
   leads_at : (w : World C) (i : ℕ) (s : Raft C) (b : Bool) → slice_get w.servers i ≡ Some s → leads_in w i ≡ b → is_leader s.mode ≡ b
   leads_at w i s b here h = sym (ap (λ q. leader_there q) here) ∙ h
 
-  module _ (old : V) (i : ℕ) (b : Bool) (k : Known d old (λ w. CanAct m i w)) (reads : Ever d old (λ w. b ≡ leads_in w i)) where
+  module _ (old : V) (i : ℕ) (b : Bool) (k : Known d old (λ w. CanBeatOrTimeOut m i w)) (reads : Ever d old (λ w. b ≡ leads_in w i)) where
     pub beat_taken : b ≡ true → KnownOf d old (λ w. CanGo d m (calms.Beat i) i w)
     beat_taken is = record {
       past = k.past;
@@ -103,11 +103,11 @@ module _ {V S C : Type 0} (m : Meaning S C) (d : Drive V S C) (dl : LawfulDrive 
           (TimesOut i, refl, record { next = y.0; happens = y.1; actor = refl; other = λ h. h });
     }
 
-    both_known : Known d old (λ w. CanAct m i w × (b ≡ leads_in w i))
-    both_known = log_known_with m d dl old (λ w. CanAct m i w) (λ w. b ≡ leads_in w i) k reads
+    both_known : Known d old (λ w. CanBeatOrTimeOut m i w × (b ≡ leads_in w i))
+    both_known = log_known_with m d dl old (λ w. CanBeatOrTimeOut m i w) (λ w. b ≡ leads_in w i) k reads
 
     pub beat_done : (new : V) → b ≡ true → WentOf d old new (λ ts w v. HasGone d (calms.Beat i) ts w v) → Went d old new (λ es w v. ActDone m i es w v)
-    beat_done new is h = went_as m d dl old new (λ w. CanAct m i (d.log w) × (b ≡ leads_in (d.log w) i)) (λ ts w v. HasGone d (calms.Beat i) ts w v) (λ ts w v. Drove d ts w v (λ es x y. ActDone m i es x y)) both_known h (λ ts w v rw rv p t.
+    beat_done new is h = went_as m d dl old new (λ w. CanBeatOrTimeOut m i (d.log w) × (b ≡ leads_in (d.log w) i)) (λ ts w v. HasGone d (calms.Beat i) ts w v) (λ ts w v. Drove d ts w v (λ es x y. ActDone m i es x y)) both_known h (λ ts w v rw rv p t.
         let c = p.0 in
         let path = t (Beats i) refl in
         record {
@@ -117,7 +117,7 @@ module _ {V S C : Type 0} (m : Meaning S C) (d : Drive V S C) (dl : LawfulDrive 
         })
 
     pub stand_done : (new : V) → b ≡ false → WentOf d old new (λ ts w v. HasGone d (calms.Timeout i) ts w v) → Went d old new (λ es w v. ActDone m i es w v)
-    stand_done new is h = went_as m d dl old new (λ w. CanAct m i (d.log w) × (b ≡ leads_in (d.log w) i)) (λ ts w v. HasGone d (calms.Timeout i) ts w v) (λ ts w v. Drove d ts w v (λ es x y. ActDone m i es x y)) both_known h (λ ts w v rw rv p t.
+    stand_done new is h = went_as m d dl old new (λ w. CanBeatOrTimeOut m i (d.log w) × (b ≡ leads_in (d.log w) i)) (λ ts w v. HasGone d (calms.Timeout i) ts w v) (λ ts w v. Drove d ts w v (λ es x y. ActDone m i es x y)) both_known h (λ ts w v rw rv p t.
         let c = p.0 in
         let path = t (TimesOut i) refl in
         record {
@@ -127,8 +127,8 @@ module _ {V S C : Type 0} (m : Meaning S C) (d : Drive V S C) (dl : LawfulDrive 
         })
 
   -- memory was wanting for it
-  pub own_stops : (old new : V) (i : ℕ) (why : Unsettled) → Known d old (λ w. CanAct m i w) → NotTaken d old new why → Stops d m i old new why
-  own_stops old new i why k h = stops_at i old new (λ w. CanAct m i (d.log w)) why k h
+  pub own_stops : (old new : V) (i : ℕ) (why : Unsettled) → Known d old (λ w. CanBeatOrTimeOut m i w) → NotTaken d old new why → Stops d m i old new why
+  own_stops old new i why k h = stops_at i old new (λ w. CanBeatOrTimeOut m i (d.log w)) why k h
 
   -- ---- a message and its answer
 
@@ -234,8 +234,8 @@ module _ {V S C : Type 0} (m : Meaning S C) (d : Drive V S C) (dl : LawfulDrive 
     from : KnownOf d old (λ w. AtFirst w)
     from = known_with m d dl old (λ w. Ready n i (d.log w)) (λ w. first ≡ d.sent w) k count
 
-    pub may_begin : Known d old (λ w. CanAct m i w)
-    may_begin = log_known_more m d dl old (λ w. Ready n i w) (λ w. CanAct m i w) k (λ w r p. may_act m law n (two n group) i w r p)
+    pub may_begin : Known d old (λ w. CanBeatOrTimeOut m i w)
+    may_begin = log_known_more m d dl old (λ w. Ready n i w) (λ w. CanBeatOrTimeOut m i w) k (λ w r p. may_act m law n (two n group) i w r p)
 
     pub spread_init : (mid : V) (end : ℕ) → EverOf d mid (λ v. end ≡ d.sent v) → Went d old mid (λ es w v. ActDone m i es w v) → WentOf d old mid (λ ts w v. SpreadTold m d i first end ts w v)
     spread_init mid end e g = went_as m d dl old mid (λ w. AtFirst w) (λ ts w v. Drove d ts w v (λ es x y. ActDone m i es x y) × (end ≡ d.sent v)) (λ ts w v. SpreadTold m d i first end ts w v) from
@@ -391,10 +391,10 @@ module _ {V S C : Type 0} (m : Meaning S C) (d : Drive V S C) (dl : LawfulDrive 
       (log_known_with m d dl old (λ w. Chosen (d.size old) i w × Highest (d.size old) k w) (λ w. IsBehind i k w → ⊥) (log_known_with m d dl old (λ w. Chosen (d.size old) i w) (λ w. Highest (d.size old) k w) c high) level)
       (λ w r p. let a = p.0.0 in level_risen m (d.size old) i a.less w r p.0.0 k p.0.1 p.1)
 
-  pub hear_known : (old : V) (i k : ℕ) → Known d old (λ w. Chosen (d.size old) i w) → Ever d old (λ w. Highest (d.size old) k w) → Ever d old (λ w. IsBehind i k w) → Known d old (λ w. CanHear (d.size old) i k w)
+  pub hear_known : (old : V) (i k : ℕ) → Known d old (λ w. Chosen (d.size old) i w) → Ever d old (λ w. Highest (d.size old) k w) → Ever d old (λ w. IsBehind i k w) → Known d old (λ w. CanObserveNewerTerm (d.size old) i k w)
   hear_known old i k c high behind = record { past = c.past; moment = c.moment; runs = c.runs; ever = λ past w r. record { chosen = c.ever past w r; high = high past w r; behind = behind past w r } }
 
-  module _ (n i k : ℕ) (w : World C) (r : Reached m n w) (c : CanHear n i k w) where
+  module _ (n i k : ℕ) (w : World C) (r : Reached m n w) (c : CanObserveNewerTerm n i k w) where
     sv : (s : Raft C) × (slice_get w.servers i ≡ Some s)
     sv = let a = c.chosen in get-some w.servers i (omega (arith, a.less, reached_size m n w r))
 
@@ -410,7 +410,7 @@ module _ {V S C : Type 0} (m : Meaning S C) (d : Drive V S C) (dl : LawfulDrive 
     abbrev TriedBy : List (Event C) → ℕ → ℕ → World C → Type 0
     TriedBy es t b y = Tried m n i less_i w r c.chosen sv.0 sv.1 k c.high zv.0 zv.1 low es t b y
 
-    pub hears_act : CanAct m i w
+    pub hears_act : CanBeatOrTimeOut m i w
     hears_act = let a = can_act m n i less_i w r c.chosen sv.0 sv.1 k c.high zv.0 zv.1 low in record { server = sv.0; here = sv.1; beats = a.0; stands = a.1 }
 
     module _ (es : List (Event C)) (y : World C) (done : ActDone m i es w y) where
@@ -438,18 +438,18 @@ module _ {V S C : Type 0} (m : Meaning S C) (d : Drive V S C) (dl : LawfulDrive 
             absurd (true≢false (sym e.up ∙ (ap (is_up_in y) (sym e.to) ∙ (ap (λ (q : Message C). is_up_in y q.to) (sym same) ∙ down))))
         hears_told fs v (both first z at up h1 h2) = came_told m n i less_i w r c.chosen sv.0 sv.1 k c.high zv.0 zv.1 low es done.timeouts done.beats y after behind first v h1 h2
 
-  module _ (old : V) (i k first : ℕ) (count : EverOf d old (λ w. first ≡ d.sent w)) (c : Known d old (λ w. CanHear (d.size old) i k w)) where
+  module _ (old : V) (i k first : ℕ) (count : EverOf d old (λ w. first ≡ d.sent w)) (c : Known d old (λ w. CanObserveNewerTerm (d.size old) i k w)) where
     abbrev heard_n : ℕ
     heard_n = d.size old
 
     abbrev Hearing : d.Moment → Type 0
-    Hearing w = CanHear heard_n i k (d.log w) × (first ≡ d.sent w)
+    Hearing w = CanObserveNewerTerm heard_n i k (d.log w) × (first ≡ d.sent w)
 
     hearing : KnownOf d old (λ w. Hearing w)
-    hearing = known_with m d dl old (λ w. CanHear heard_n i k (d.log w)) (λ w. first ≡ d.sent w) c count
+    hearing = known_with m d dl old (λ w. CanObserveNewerTerm heard_n i k (d.log w)) (λ w. first ≡ d.sent w) c count
 
-    pub hear_act : Known d old (λ w. CanAct m i w)
-    hear_act = log_known_more m d dl old (λ w. CanHear heard_n i k w) (λ w. CanAct m i w) c (λ w r p. hears_act heard_n i k w r p)
+    pub hear_act : Known d old (λ w. CanBeatOrTimeOut m i w)
+    hear_act = log_known_more m d dl old (λ w. CanObserveNewerTerm heard_n i k w) (λ w. CanBeatOrTimeOut m i w) c (λ w r p. hears_act heard_n i k w r p)
 
     module _ (mid : V) (g : Went d old mid (λ es w v. ActDone m i es w v)) where
       pub hear_within : (i < d.size mid) × (k < d.size mid)
@@ -461,7 +461,7 @@ module _ {V S C : Type 0} (m : Meaning S C) (d : Drive V S C) (dl : LawfulDrive 
           (omega (arith, a.less, one.size), omega (arith, b.less, one.size))
 
       pub hear_level : Ever d mid (λ v. IsBehind i k v → ⊥) → Went d old mid (λ es w v. Risen m heard_n i w es v)
-      hear_level level = goes_as m d dl old mid (λ w. CanHear heard_n i k w) (λ es w v. ActDone m i es w v × (IsBehind i k v → ⊥)) (λ es w v. Risen m heard_n i w es v) c
+      hear_level level = goes_as m d dl old mid (λ w. CanObserveNewerTerm heard_n i k w) (λ es w v. ActDone m i es w v × (IsBehind i k v → ⊥)) (λ es w v. Risen m heard_n i w es v) c
           (goes_with m d dl old mid (λ es w v. ActDone m i es w v) (λ v. IsBehind i k v → ⊥) g level)
           (λ es w v rw rv p e. hears_level heard_n i k w rw p es v e.0 e.1)
 

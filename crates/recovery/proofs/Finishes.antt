@@ -2,7 +2,7 @@
 use Rattle.std.proofs.Common.{◌≡◌, ℕ, suc, ◌+◌, ◌*◌, ◌≤◌, inl, inr, true, false, Option, Some, None, List, [], ◌∷◌, ◌++◌, length, refl, sym, ap, ◌∙◌, subst, arith, slice_get, true≢false}
 use Rattle.std.proofs.lemmas.Option.{same_Some}
 use Rattle.rows.specs.GroupSizes.{IsGroup}
-use Rattle.machine_model.specs.Meaning.{Meaning, LawfulMachine}
+use Rattle.machine_model.specs.MachineSpec.{MachineSpec, LawfulMachine}
 use Rattle.machine_model.specs.declared.entry.Entry.{Entry}
 use Rattle.raft_model.specs.Rafts.{Raft, is_up, is_leader}
 use Rattle.raft_model.specs.Chains.{Agree}
@@ -21,7 +21,7 @@ use Rattle.recovery.proofs.Spreads.{up_is}
 use Rattle.recovery.proofs.Rounding.{rounding_start, rounding_more, rounds_apply}
 use Rattle.recovery.proofs.Ways.{no_way, way_more}
 
-module _ {S C : Type 0} (m : Meaning S C) (n i : ℕ) where
+module _ {S C : Type 0} (m : MachineSpec S C) (n i : ℕ) where
   -- it leads already
   pub led_already : (w : World C) → Ready n i w → (s : Raft C) → slice_get w.servers i ≡ Some s → is_leader s.mode ≡ true → LedDone m n i [] w w
   led_already w ready s here leads =
@@ -58,7 +58,7 @@ module _ {S C : Type 0} (m : Meaning S C) (n i : ℕ) where
   pub leading_then : (w v : World C) (es : List (Event C)) → LedDone m n i es w v → Leading n i v
   leading_then w v es d = record { ready = d.ready; term = d.term; leads = d.leads }
 
-module _ {S C : Type 0} (m : Meaning S C) (law : LawfulMachine m) (n : ℕ) (two : 2 ≤ n) (i : ℕ) (w : World C) (r : Reached m n w) (leading : Leading n i w) where
+module _ {S C : Type 0} (m : MachineSpec S C) (law : LawfulMachine m) (n : ℕ) (two : 2 ≤ n) (i : ℕ) (w : World C) (r : Reached m n w) (leading : Leading n i w) where
   pub confirm_start : ConfirmSoFar m n i 0 [] w w
   confirm_start = record { rounding = rounding_start m law n two i w r leading.ready leading.term leading.leads; way = no_way m i w }
 
@@ -102,7 +102,7 @@ few_in_all : (n len z b : ℕ) → IsGroup n → z ≤ suc len → b ≤ 1 + (2 
 few_in_all n len z b (inl e) short few = rw e (omega (arith, short, few))
 few_in_all n len z b (inr e) short few = rw e (omega (arith, short, few))
 
-module _ {S C : Type 0} (m : Meaning S C) (law : LawfulMachine m) (n : ℕ) (group : IsGroup n) (i : ℕ) (w : World C) (r : Reached m n w) (chosen : Chosen n i w) where
+module _ {S C : Type 0} (m : MachineSpec S C) (law : LawfulMachine m) (n : ℕ) (group : IsGroup n) (i : ℕ) (w : World C) (r : Reached m n w) (chosen : Chosen n i w) where
   module _ (es fs gs : List (Event C)) (x u v : World C) (rv : Reached m n v) (a : Risen m n i w es x) (b : LedDone m n i fs x u) (c : AppliedDone m i gs u v) where
     mine : (s : Raft C) × (slice_get w.servers i ≡ Some s)
     mine = get-some w.servers i (omega (arith, chosen.less, reached_size m n w r))

@@ -1,7 +1,7 @@
 -- Parts of a value's run, one after the other.
 use Rattle.std.proofs.Common.{◌≡◌, ℕ, suc, ◌+◌, ◌-◌, ◌<◌, inl, inr, Ok, List, [], ◌∷◌, ◌++◌, length, refl, sym, ap, ◌∙◌, subst, arith, append_assoc}
 use Rattle.std.proofs.lemmas.Bool.Decides.{leb_tells}
-use Rattle.machine_model.specs.Meaning.{Meaning}
+use Rattle.machine_model.specs.MachineSpec.{MachineSpec}
 use Rattle.raft_model.specs.Worlds.{World, Event, happens}
 use Rattle.raft_progress.proofs.Moves.{Reached}
 use Rattle.world.proofs.Runs.{ends_alike, no_end}
@@ -13,7 +13,7 @@ pub nil_end : {A : Type 0} (l : List A) → l ≡ l ++ []
 nil_end [] = refl
 nil_end (x ∷ l) = ap (λ z. x ∷ z) (nil_end l)
 
-module _ {V S C : Type 0} (m : Meaning S C) (d : Drive V S C) (dl : LawfulDrive m d) where
+module _ {V S C : Type 0} (m : MachineSpec S C) (d : Drive V S C) (dl : LawfulDrive m d) where
   -- ---- paths
 
   abbrev log_sent : d.Moment → ℕ

@@ -10,9 +10,9 @@ use Rattle.raft_model.specs.Messages.{Message}
 use Rattle.raft_model.specs.Steps as raft_steps
 use Rattle.raft_model.specs.Worlds as raft_worlds
 use Rattle.raft_safety.proofs.Places.{get-some, get-within, get-more}
-use Rattle.cluster_model.specs.ClusterMachine.{cluster_meaning}
+use Rattle.fsm_model.specs.ClusterMachine.{cluster_spec}
 use Rattle.group_model.specs.Inputs as inputs
-use Rattle.group_model.specs.Inputs.{AskTimeout, AskBeat, AskCrash}
+use Rattle.group_model.specs.Inputs.{AskTimeout, AskHeartbeat, AskCrash}
 use Rattle.group_model.specs.Messages.{OfLog}
 use Rattle.group_model.specs.Servers.{Server}
 use Rattle.group_model.specs.Worlds.{World, Event, Deliver, AtServer, IsRestart, LogEventFits, happens, crash_of, crash_of_message, raft_of, raft_part, raft_messages}
@@ -22,7 +22,7 @@ use Rattle.group_safety.proofs.Lists.{get_map, map_length, message_place}
 use Rattle.group_safety.proofs.Projections.{projection}
 use Rattle.group_frames.specs.GroupFrames.{CarriesGroup}
 use Rattle.server.specs.declared.server.Outbox.{Outbox}
-use Rattle.server.specs.ServerViews.{ServerView, IsServer}
+use Rattle.server.specs.ServerViews.{ServerView, RefinesServer}
 use Rattle.world.specs.GroupWork.{work_of}
 use Rattle.world.specs.GroupView.{GroupView, GroupRunsTo, nodes_of}
 use Rattle.world.specs.GroupSteps.{GroupEventHappened, GroupActorCrashed, GroupStaysDown, SameView, RefusesGroupEvent}
@@ -66,7 +66,7 @@ at_stays w v ms h q p a = record {
   place_is = a.place_is ∙ sym (ap (λ l. length (raft_messages (take q l))) h ∙ ap (λ l. length (raft_messages l)) (take_front w.sent (map OfLog ms) q (omega (arith, get-within w.sent q (OfLog a.message) a.at))));
 }
 
-pub group_lawful : LawfulDrive cluster_meaning group_drive
+pub group_lawful : LawfulDrive cluster_spec group_drive
 group_lawful = record {
   one = λ view past past2 w w2 r r2. let q = group_runs_are_one view past past2 w w2 r.runs r2.runs in q.1;
   run = λ view past w r.
@@ -89,13 +89,13 @@ group_has_run view l fit = record { past = l.past; moment = l.world; runs = reco
 -- ---- what is read
 
 pub group_sent_length : (view : GroupView) (count : ℕ) → count ≡ length (let o = view.outbox in o.frames) → EverOf group_drive view (λ w. count ≡ length w.sent)
-group_sent_length view count is past w r = let run = r.runs in let st = run.represents in is ∙ zip_length (CarriesGroup cluster_meaning) (let o = view.outbox in o.frames) w.sent st.sent
+group_sent_length view count is past w r = let run = r.runs in let st = run.refines in is ∙ zip_length (CarriesGroup cluster_spec) (let o = view.outbox in o.frames) w.sent st.sent
 
-pub group_is_there : (view : GroupView) (k : ℕ) (h : ServerView) → slice_get view.servers k ≡ Some h → StandsThere group_drive cluster_meaning k h.raft view
+pub group_is_there : (view : GroupView) (k : ℕ) (h : ServerView) → slice_get view.servers k ≡ Some h → StandsThere group_drive cluster_spec k h.raft view
 group_is_there view k h here past w r =
     let run = r.runs in
-    let st = run.represents in
-    let z = zip_at IsServer view.servers w.servers k h st.servers here in
+    let st = run.refines in
+    let z = zip_at RefinesServer view.servers w.servers k h st.servers here in
     let s = z.0 in
     let is = z.2 in
     (s.raft, get_map raft_part w.servers k s z.1, is.raft)
@@ -103,8 +103,8 @@ group_is_there view k h here past w r =
 pub group_is_not_there : (view : GroupView) (k : ℕ) → slice_get view.servers k ≡ None → NoneThere group_drive k view
 group_is_not_there view k none past w r =
     let run = r.runs in
-    let st = run.represents in
-    none_in w.servers k (zip_none IsServer view.servers w.servers k st.servers none)
+    let st = run.refines in
+    none_in w.servers k (zip_none RefinesServer view.servers w.servers k st.servers none)
   where
     none_in : (xs : List Server) (j : ℕ) → slice_get xs j ≡ None → slice_get (map raft_part xs) j ≡ None
     none_in [] j h = refl
@@ -120,8 +120,8 @@ module _ (view : GroupView) (place : ℕ) where
   its_frame : (past : List World) (w : World) → GroupRuns view past w → (p : ℕ) → IsLogPlace w place p → (z : Message Command) → slice_get (raft_messages w.sent) p ≡ Some z → (f : Frame) × (slice_get frames place ≡ Some f) × (f.to ≡ actors.Server z.to)
   its_frame past w r p a z there =
       let run = r.runs in
-      let st = run.represents in
-      let f = zip_from (CarriesGroup cluster_meaning) frames w.sent place (OfLog a.message) st.sent a.at in
+      let st = run.refines in
+      let f = zip_from (CarriesGroup cluster_spec) frames w.sent place (OfLog a.message) st.sent a.at in
       let c = f.2 in
       let same : a.message ≡ z = same_Some a.message z (sym (message_place w.sent place a.message a.at) ∙ (ap (slice_get (raft_messages w.sent)) (sym a.place_is) ∙ there)) in
       (f.0, f.1, c.to ∙ ap (λ (q : Message Command). actors.Server q.to) same)
@@ -161,12 +161,12 @@ module _ (w v : World) (i : ℕ) where
 
   beat_step : happens w (AtServer i inputs.Beat) ≡ Ok v → GroupStep w (AtServer i inputs.Beat) (raft_worlds.Beats i) v
   beat_step h =
-      let sent = own_sent w i inputs.Beat AskBeat refl (λ s. refl) (λ s. refl) (λ n t off. rw off refl) v h in
+      let sent = own_sent w i inputs.Beat AskHeartbeat refl (λ s. refl) (λ s. refl) (λ n t off. rw off refl) v h in
       record {
         is = is_beat i;
-        fits = subst (λ o. LogEventFits o) (sym (own_asked w i inputs.Beat AskBeat refl (λ s. refl) (λ s. refl) (λ n t off. rw off refl) v h)) tt;
+        fits = subst (λ o. LogEventFits o) (sym (own_asked w i inputs.Beat AskHeartbeat refl (λ s. refl) (λ s. refl) (λ n t off. rw off refl) v h)) tt;
         happens = h;
-        log = own_log w i inputs.Beat AskBeat refl (λ s. refl) (λ s. refl) (λ n t off. rw off refl) v h;
+        log = own_log w i inputs.Beat AskHeartbeat refl (λ s. refl) (λ s. refl) (λ n t off. rw off refl) v h;
         messages = sent.0;
         sent = sent.1;
       }
@@ -183,7 +183,7 @@ delivery_step w v q p a h =
       is = is_delivery q p a;
       fits = subst (λ o. LogEventFits o) (sym (message_asked w q a.message a.at v h)) tt;
       happens = h;
-      log = subst (λ k. raft_worlds.happens cluster_meaning (raft_of w) (raft_worlds.Deliver k) ≡ Ok (raft_of v)) (sym a.place_is) (message_log w q a.message a.at v h);
+      log = subst (λ k. raft_worlds.happens cluster_spec (raft_of w) (raft_worlds.Deliver k) ≡ Ok (raft_of v)) (sym a.place_is) (message_log w q a.message a.at v h);
       messages = sent.0;
       sent = sent.1;
     }
@@ -198,55 +198,55 @@ step_of (calms.Beat i) w v f o h = subst (λ e. GroupStep w (AtServer i inputs.B
 event_rests : (event : CalmEvent) (w v : World) (f : raft_worlds.Event Command) → IsOfLog group_drive w event f → happens w (group_event_of event) ≡ Ok v → work_of w (group_event_of event) ≡ []
 event_rests (calms.Deliver q) w v f o h = let a = o.1 in message_work w q a.message a.at v h
 event_rests (calms.Timeout i) w v f o h = own_work w i inputs.Timeout AskTimeout refl (λ s. refl) (λ s. refl) (λ n t off. rw off refl) v h
-event_rests (calms.Beat i) w v f o h = own_work w i inputs.Beat AskBeat refl (λ s. refl) (λ s. refl) (λ n t off. rw off refl) v h
+event_rests (calms.Beat i) w v f o h = own_work w i inputs.Beat AskHeartbeat refl (λ s. refl) (λ s. refl) (λ n t off. rw off refl) v h
 
 -- whose it is
 module _ (w : World) (who : ℕ) where
-  crash_is : (event : CalmEvent) → CanGo group_drive cluster_meaning event who w → crash_of w (group_event_of event) ≡ Some (AtServer who inputs.Crash)
+  crash_is : (event : CalmEvent) → CanGo group_drive cluster_spec event who w → crash_of w (group_event_of event) ≡ Some (AtServer who inputs.Crash)
   crash_is (calms.Deliver q) c =
       let can = c.2 in
       let a = c.1.1 in
-      let actor : raft_worlds.acting_server cluster_meaning (raft_of w) (raft_worlds.Deliver c.1.0) ≡ Some who = ap (raft_worlds.acting_server cluster_meaning (raft_of w)) (sym c.1.2) ∙ can.actor in
+      let actor : raft_worlds.acting_server cluster_spec (raft_of w) (raft_worlds.Deliver c.1.0) ≡ Some who = ap (raft_worlds.acting_server cluster_spec (raft_of w)) (sym c.1.2) ∙ can.actor in
       let there : slice_get (raft_messages w.sent) c.1.0 ≡ Some a.message = ap (slice_get (raft_messages w.sent)) a.place_is ∙ message_place w.sent q a.message a.at in
-      let its : (let z = a.message in z.to) ≡ who = same_Some (let z = a.message in z.to) who (sym (ap (λ o. raft_worlds.receiver cluster_meaning o) there) ∙ actor) in
+      let its : (let z = a.message in z.to) ≡ who = same_Some (let z = a.message in z.to) who (sym (ap (λ o. raft_worlds.receiver cluster_spec o) there) ∙ actor) in
       ap (λ o. crash_of_message o) a.at ∙ ap (λ k. Some (AtServer k inputs.Crash)) its
   crash_is (calms.Timeout i) c =
       let can = c.2 in
-      let its : i ≡ who = same_Some i who (ap (raft_worlds.acting_server cluster_meaning (raft_of w)) (sym c.1) ∙ can.actor) in
+      let its : i ≡ who = same_Some i who (ap (raft_worlds.acting_server cluster_spec (raft_of w)) (sym c.1) ∙ can.actor) in
       ap (λ k. Some (AtServer k inputs.Crash)) its
   crash_is (calms.Beat i) c =
       let can = c.2 in
-      let its : i ≡ who = same_Some i who (ap (raft_worlds.acting_server cluster_meaning (raft_of w)) (sym c.1) ∙ can.actor) in
+      let its : i ≡ who = same_Some i who (ap (raft_worlds.acting_server cluster_spec (raft_of w)) (sym c.1) ∙ can.actor) in
       ap (λ k. Some (AtServer k inputs.Crash)) its
 
   -- it is not refused
-  goes_on : (event : CalmEvent) (r : Refusal) → CanGo group_drive cluster_meaning event who w → happens w (group_event_of event) ≡ Err r → ⊥
+  goes_on : (event : CalmEvent) (r : Refusal) → CanGo group_drive cluster_spec event who w → happens w (group_event_of event) ≡ Err r → ⊥
   goes_on (calms.Deliver q) r c h =
       let can = c.2 in
       let a = c.1.1 in
-      let log : raft_worlds.happens cluster_meaning (raft_of w) (raft_worlds.Deliver c.1.0) ≡ Ok can.next = ap (raft_worlds.happens cluster_meaning (raft_of w)) (sym c.1.2) ∙ can.happens in
+      let log : raft_worlds.happens cluster_spec (raft_of w) (raft_worlds.Deliver c.1.0) ≡ Ok can.next = ap (raft_worlds.happens cluster_spec (raft_of w)) (sym c.1.2) ∙ can.happens in
       let there : slice_get (raft_messages w.sent) c.1.0 ≡ Some a.message = ap (slice_get (raft_messages w.sent)) a.place_is ∙ message_place w.sent q a.message a.at in
-      let its : raft_worlds.input_to cluster_meaning (raft_of w) (let z = a.message in z.to) (raft_steps.Arrives a.message) (slice_get (map raft_part w.servers) (let z = a.message in z.to)) ≡ Ok can.next = sym (ap (λ o. raft_worlds.delivers cluster_meaning (raft_of w) o) there) ∙ log in
+      let its : raft_worlds.input_to cluster_spec (raft_of w) (let z = a.message in z.to) (raft_steps.Arrives a.message) (slice_get (map raft_part w.servers) (let z = a.message in z.to)) ≡ Ok can.next = sym (ap (λ o. raft_worlds.delivers cluster_spec (raft_of w) o) there) ∙ log in
       message_goes w q a.message a.at r (slice_get (map raft_part w.servers) (let z = a.message in z.to)) refl can.next its h
   goes_on (calms.Timeout i) r c h =
       let can = c.2 in
-      let log : raft_worlds.happens cluster_meaning (raft_of w) (raft_worlds.TimesOut i) ≡ Ok can.next = ap (raft_worlds.happens cluster_meaning (raft_of w)) (sym c.1) ∙ can.happens in
+      let log : raft_worlds.happens cluster_spec (raft_of w) (raft_worlds.TimesOut i) ≡ Ok can.next = ap (raft_worlds.happens cluster_spec (raft_of w)) (sym c.1) ∙ can.happens in
       own_goes w i inputs.Timeout AskTimeout refl (λ s. refl) (λ s. refl) (λ n t off. rw off refl) r (slice_get (map raft_part w.servers) i) refl can.next log h
   goes_on (calms.Beat i) r c h =
       let can = c.2 in
-      let log : raft_worlds.happens cluster_meaning (raft_of w) (raft_worlds.Beats i) ≡ Ok can.next = ap (raft_worlds.happens cluster_meaning (raft_of w)) (sym c.1) ∙ can.happens in
-      own_goes w i inputs.Beat AskBeat refl (λ s. refl) (λ s. refl) (λ n t off. rw off refl) r (slice_get (map raft_part w.servers) i) refl can.next log h
+      let log : raft_worlds.happens cluster_spec (raft_of w) (raft_worlds.Beats i) ≡ Ok can.next = ap (raft_worlds.happens cluster_spec (raft_of w)) (sym c.1) ∙ can.happens in
+      own_goes w i inputs.Beat AskHeartbeat refl (λ s. refl) (λ s. refl) (λ n t off. rw off refl) r (slice_get (map raft_part w.servers) i) refl can.next log h
 
 no_restart : (event : CalmEvent) → IsRestart (group_event_of event) → ⊥
 no_restart (calms.Deliver q) h = h
 no_restart (calms.Timeout i) h = h
 no_restart (calms.Beat i) h = h
 
-module _ (old : GroupView) (event : CalmEvent) (who : ℕ) (k : KnownOf group_drive old (λ w. CanGo group_drive cluster_meaning event who w)) where
+module _ (old : GroupView) (event : CalmEvent) (who : ℕ) (k : KnownOf group_drive old (λ w. CanGo group_drive cluster_spec event who w)) where
   pub group_has_number : (count : ℕ) → count ≡ length (let o = old.outbox in o.frames) → count < 2 ^ 64 → HasNumber event
   group_has_number count is less = numbered event (k.ever k.past k.moment k.runs) (group_sent_length old count is k.past k.moment k.runs)
     where
-      numbered : (e : CalmEvent) → CanGo group_drive cluster_meaning e who k.moment → count ≡ length (let w = k.moment in w.sent) → HasNumber e
+      numbered : (e : CalmEvent) → CanGo group_drive cluster_spec e who k.moment → count ≡ length (let w = k.moment in w.sent) → HasNumber e
       numbered (calms.Deliver place) c here =
           let a = c.1.1 in
           let w = k.moment in
@@ -256,14 +256,14 @@ module _ (old : GroupView) (event : CalmEvent) (who : ℕ) (k : KnownOf group_dr
 
   module _ (own : Event) (is : own ≡ group_event_of event) (new : GroupView) where
     -- what stays, where its workers get nothing
-    stays : (e : Event) → GroupEventHappened old e new → ((w v : World) → CanGo group_drive cluster_meaning event who w → happens w e ≡ Ok v → work_of w e ≡ []) → GroupStays old new
+    stays : (e : Event) → GroupEventHappened old e new → ((w v : World) → CanGo group_drive cluster_spec event who w → happens w e ≡ Ok v → work_of w e ≡ []) → GroupStays old new
     stays e h f =
         let r = k.runs in
         let run = r.runs in
         let n = h.runs k.past k.moment run in
         record {
           nodes = h.nodes;
-          work = h.work k.moment run.represents ∙ (ap (λ l. (let o = old.outbox in o.work) ++ l) (f k.moment n.0 (k.ever k.past k.moment k.runs) n.1) ∙ append-nil (let o = old.outbox in o.work));
+          work = h.work k.moment run.refines ∙ (ap (λ l. (let o = old.outbox in o.work) ++ l) (f k.moment n.0 (k.ever k.past k.moment k.runs) n.1) ∙ append-nil (let o = old.outbox in o.work));
         }
 
     pub group_taken : GroupEventHappened old own new → WentOf group_drive old new (λ ts w v. HasGone group_drive event ts w v)
@@ -289,7 +289,7 @@ module _ (old : GroupView) (event : CalmEvent) (who : ℕ) (k : KnownOf group_dr
         let z = c.happened in
         let crash : (past : List World) (w : World) → GroupRuns old past w → c.crash ≡ AtServer who inputs.Crash = λ past w r.
         let run = r.runs in
-        same_Some c.crash (AtServer who inputs.Crash) (sym (c.actor w run.represents) ∙ (ap (λ e. crash_of w e) is ∙ crash_is w who event (k.ever past w r))) in
+        same_Some c.crash (AtServer who inputs.Crash) (sym (c.actor w run.refines) ∙ (ap (λ e. crash_of w e) is ∙ crash_is w who event (k.ever past w r))) in
         let it = crash k.past k.moment k.runs in (
           c.crash ∷ [],
           record {
@@ -310,7 +310,7 @@ module _ (old : GroupView) (event : CalmEvent) (who : ℕ) (k : KnownOf group_dr
                     falls = record {
                       event = own;
                       actor = ap (λ e. crash_of w e) is ∙ crash_is w who event (k.ever past w r);
-                      lacking = c.lacking w run.represents;
+                      lacking = c.lacking w run.refines;
                       crash = subst (λ e. happens w e ≡ Ok n.0) it n.1;
                       own_is = it;
                     };

@@ -13,7 +13,7 @@ use Rattle.raft_safety.proofs.Places.{get-last}
 use Rattle.raft_progress.specs.Recovery as recoveries
 use Rattle.raft_progress.specs.Recovery.{Recovery, CanSettle, Settled}
 use Rattle.raft_progress.proofs.Leaders.{leader_facts}
-use Rattle.cluster_model.specs.ClusterMachine.{cluster_meaning}
+use Rattle.fsm_model.specs.ClusterMachine.{cluster_spec}
 use Rattle.group_model.specs.Inputs as inputs
 use Rattle.group_model.specs.Messages.{GroupMessage, OfLog}
 use Rattle.group_model.specs.Worlds.{World, Event, Deliver, AtServer, Run, IsEvent, happens, raft_of, raft_part, raft_messages}
@@ -68,10 +68,10 @@ module _ (i : ℕ) (w : World) where
     sent_on : (before : World) (f : raft_worlds.Event Command) (own : Event) (early : List Event) → (q : Followed i w early t b x before) → GroupStep before own f v → (rest : List GroupMessage) × (v.sent ≡ w.sent ++ rest)
     sent_on before f own early q s = (q.rest ++ map OfLog s.messages, s.sent ∙ (ap (λ l. l ++ map OfLog s.messages) q.sent ∙ append_assoc w.sent q.rest (map OfLog s.messages)))
 
-    log_on : (before : World) (f : raft_worlds.Event Command) (own : Event) (early : List Event) → (q : Followed i w early t b x before) → GroupStep before own f v → raft_worlds.happens cluster_meaning x f ≡ Ok y → raft_of v ≡ y
-    log_on before f own early q s h = same_ok _ _ (sym s.log ∙ (ap (λ z. raft_worlds.happens cluster_meaning z f) q.log ∙ h))
+    log_on : (before : World) (f : raft_worlds.Event Command) (own : Event) (early : List Event) → (q : Followed i w early t b x before) → GroupStep before own f v → raft_worlds.happens cluster_spec x f ≡ Ok y → raft_of v ≡ y
+    log_on before f own early q s h = same_ok _ _ (sym s.log ∙ (ap (λ z. raft_worlds.happens cluster_spec z f) q.log ∙ h))
 
-    delivery_followed : (place : ℕ) (l : LastStep cluster_meaning group_drive group_lawful w ts es (raft_worlds.Deliver place) v) → Followed i w l.earlier t b x l.before → length (raft_messages w.sent) ≤ place → raft_worlds.happens cluster_meaning x (raft_worlds.Deliver place) ≡ Ok y → Followed i w ts t b y v
+    delivery_followed : (place : ℕ) (l : LastStep cluster_spec group_drive group_lawful w ts es (raft_worlds.Deliver place) v) → Followed i w l.earlier t b x l.before → length (raft_messages w.sent) ≤ place → raft_worlds.happens cluster_spec x (raft_worlds.Deliver place) ≡ Ok y → Followed i w ts t b y v
     unfolding group_events_of
     delivery_followed place l q since h =
         let s = l.step in
@@ -87,7 +87,7 @@ module _ (i : ℕ) (w : World) where
           sent = m.1;
         }
 
-    timeout_followed : (l : LastStep cluster_meaning group_drive group_lawful w ts es (raft_worlds.TimesOut i) v) → Followed i w l.earlier t b x l.before → raft_worlds.happens cluster_meaning x (raft_worlds.TimesOut i) ≡ Ok y → Followed i w ts (suc t) b y v
+    timeout_followed : (l : LastStep cluster_spec group_drive group_lawful w ts es (raft_worlds.TimesOut i) v) → Followed i w l.earlier t b x l.before → raft_worlds.happens cluster_spec x (raft_worlds.TimesOut i) ≡ Ok y → Followed i w ts (suc t) b y v
     unfolding group_events_of
     timeout_followed l q h =
         let s = l.step in
@@ -101,7 +101,7 @@ module _ (i : ℕ) (w : World) where
           sent = m.1;
         }
 
-    beat_followed : (l : LastStep cluster_meaning group_drive group_lawful w ts es (raft_worlds.Beats i) v) → Followed i w l.earlier t b x l.before → raft_worlds.happens cluster_meaning x (raft_worlds.Beats i) ≡ Ok y → Followed i w ts t (suc b) y v
+    beat_followed : (l : LastStep cluster_spec group_drive group_lawful w ts es (raft_worlds.Beats i) v) → Followed i w l.earlier t b x l.before → raft_worlds.happens cluster_spec x (raft_worlds.Beats i) ≡ Ok y → Followed i w ts t (suc b) y v
     unfolding group_events_of
     beat_followed l q h =
         let s = l.step in
@@ -115,20 +115,20 @@ module _ (i : ℕ) (w : World) where
           sent = m.1;
         }
 
-  pub follow : (t b : ℕ) (y : raft_worlds.World Command) (r : Recovery cluster_meaning i (raft_of w) t b y) (ts : List Event) (v : World) → Trail group_drive w ts (events_of cluster_meaning i (raft_of w) t b y r) v → Followed i w ts t b y v
+  pub follow : (t b : ℕ) (y : raft_worlds.World Command) (r : Recovery cluster_spec i (raft_of w) t b y) (ts : List Event) (v : World) → Trail group_drive w ts (events_of cluster_spec i (raft_of w) t b y r) v → Followed i w ts t b y v
   unfolding events_of
-  follow t b y recoveries.no_event ts v p = none_followed ts v (trail_nil cluster_meaning group_drive group_lawful w ts [] v p refl)
+  follow t b y recoveries.no_event ts v p = none_followed ts v (trail_nil cluster_spec group_drive group_lawful w ts [] v p refl)
   follow t b y (recoveries.a_delivery {t = t1} {b = b1} {x = x} place y2 c since h) ts v p =
-      let es = events_of cluster_meaning i (raft_of w) t1 b1 x c in
-      let l = last_step cluster_meaning group_drive group_lawful w ts (es ++ raft_worlds.Deliver place ∷ []) v p es (raft_worlds.Deliver place) refl in
+      let es = events_of cluster_spec i (raft_of w) t1 b1 x c in
+      let l = last_step cluster_spec group_drive group_lawful w ts (es ++ raft_worlds.Deliver place ∷ []) v p es (raft_worlds.Deliver place) refl in
       delivery_followed ts es v t1 b1 x y2 place l (follow t1 b1 x c l.earlier l.before l.path) since h
   follow t b y (recoveries.a_timeout {t = t1} {b = b1} {x = x} y2 c h) ts v p =
-      let es = events_of cluster_meaning i (raft_of w) t1 b1 x c in
-      let l = last_step cluster_meaning group_drive group_lawful w ts (es ++ raft_worlds.TimesOut i ∷ []) v p es (raft_worlds.TimesOut i) refl in
+      let es = events_of cluster_spec i (raft_of w) t1 b1 x c in
+      let l = last_step cluster_spec group_drive group_lawful w ts (es ++ raft_worlds.TimesOut i ∷ []) v p es (raft_worlds.TimesOut i) refl in
       timeout_followed ts es v t1 b1 x y2 l (follow t1 b1 x c l.earlier l.before l.path) h
   follow t b y (recoveries.a_beat {t = t1} {b = b1} {x = x} y2 c h) ts v p =
-      let es = events_of cluster_meaning i (raft_of w) t1 b1 x c in
-      let l = last_step cluster_meaning group_drive group_lawful w ts (es ++ raft_worlds.Beats i ∷ []) v p es (raft_worlds.Beats i) refl in
+      let es = events_of cluster_spec i (raft_of w) t1 b1 x c in
+      let l = last_step cluster_spec group_drive group_lawful w ts (es ++ raft_worlds.Beats i ∷ []) v p es (raft_worlds.Beats i) refl in
       beat_followed ts es v t1 b1 x y2 l (follow t1 b1 x c l.earlier l.before l.path) h
 
 -- ---- the desk
@@ -144,7 +144,7 @@ ends_own (x ∷ y ∷ ys) t some last = or_right (x.term == t) (has_own t (y ∷
 open_desk : (n : ℕ) (nodes : List NodeSpec) (events : List Event) (past : List World) (v : World) → Run n nodes events past v → (i : ℕ) → Settled i (raft_of v) → HasOpenDesk i v
 open_desk n nodes events past v run i l =
     let q = projection n nodes events past v run in
-    let f = leader_facts cluster_meaning n (raft_of v) (record { events = q.log_events; past = q.log_past; run = q.run }) i l.server l.next l.match l.here l.mode in
+    let f = leader_facts cluster_spec n (raft_of v) (record { events = q.log_events; past = q.log_past; run = q.run }) i l.server l.next l.match l.here l.mode in
     let at = map_get raft_part v.servers i l.server l.here in
     let d : DeskIs at.0 = desks n nodes events past v run (length past) i at.0 (record { world = v; world_is = get-last past v; here = at.1 }) in
     let own : has_own l.server.term (take l.server.commit l.server.log) ≡ true =
@@ -171,7 +171,7 @@ module _ (view : GroupView) (past : List World) (v : World) (runs : GroupRuns vi
       let n = length view.servers in
       open_desk n (nodes_of view) view.trace past v (limited_runs n (nodes_of view) view.trace past v runs.nodes r.run) i l
 
-  pub group_settles : (n who : ℕ) (ts : List Event) (w : World) → Drove group_drive ts w v (λ es x y. Settles cluster_meaning n who es x y) → GroupSettles n who ts w v
+  pub group_settles : (n who : ℕ) (ts : List Event) (w : World) → Drove group_drive ts w v (λ es x y. Settles cluster_spec n who es x y) → GroupSettles n who ts w v
   group_settles n who ts w a =
       let s = a.told in
       let c = s.can in
@@ -200,14 +200,14 @@ module _ (view : GroupView) (past : List World) (v : World) (runs : GroupRuns vi
         taken_are = f.events;
       }
 
-group_began : (i : ℕ) (ts : List Event) (w v : World) → CameBy group_drive cluster_meaning i ts w v → GroupBegan ts w v
+group_began : (i : ℕ) (ts : List Event) (w v : World) → CameBy group_drive cluster_spec i ts w v → GroupBegan ts w v
 group_began i ts w v a =
     let c = a.told in
     let way = c.way in
     let f = follow i w c.timeouts c.beats (raft_of v) way.recovery ts v (subst (λ l. Trail group_drive w ts l v) (sym way.events) a.path) in
     record { who = i; timeouts = c.timeouts; beats = c.beats; recovery = f.recovery; taken_are = f.events }
 
-group_fell : (i who : ℕ) (ts : List Event) (w v : World) → FellAfter group_drive (CameBy group_drive cluster_meaning i) who ts w v → GroupFell who ts w v
+group_fell : (i who : ℕ) (ts : List Event) (w v : World) → FellAfter group_drive (CameBy group_drive cluster_spec i) who ts w v → GroupFell who ts w v
 group_fell i who ts w v a =
     let f = a.falls in
     record {
@@ -239,14 +239,14 @@ module _ (old new : GroupView) (fit : NodesFit (nodes_of old)) where
         },
       )
 
-  pub is_group_settled : (who : ℕ) → DriveSettled group_drive cluster_meaning old new who → IsGroupSettled old new who
+  pub is_group_settled : (who : ℕ) → DriveSettled group_drive cluster_spec old new who → IsGroupSettled old new who
   is_group_settled who s = record {
     quorum = λ past w r. s.quorum past w (record { runs = r; nodes = fit });
     room = λ past w r. s.room past w (record { runs = r; nodes = fit });
     went = group_goes _ (λ ts w v. GroupSettles (length old.servers) who ts w v) s.went (λ past ts w v r a. group_settles new past v r (length old.servers) who ts w a);
   }
 
-  pub why_group_unsettled : (why : Unsettled) → WhyDriveUnsettled group_drive cluster_meaning old new why → WhyGroupUnsettled old new why
+  pub why_group_unsettled : (why : Unsettled) → WhyDriveUnsettled group_drive cluster_spec old new why → WhyGroupUnsettled old new why
   why_group_unsettled NoQuorum h = (λ past w r. h.0 past w (record { runs = r; nodes = fit }), h.1)
   why_group_unsettled Exhausted h = (λ past w r. h.0 past w (record { runs = r; nodes = fit }), λ past w r. h.1 past w (record { runs = r; nodes = fit }), h.2)
   why_group_unsettled NoMemory h = (

@@ -9,10 +9,10 @@ use Rattle.raft_model.specs.Rafts.{Raft, RaftTurn, is_up}
 use Rattle.raft_model.specs.Steps as raft_steps
 use Rattle.raft_model.specs.Worlds as raft_worlds
 use Rattle.raft_model.proofs.Cases.{bool_cases, same_ok}
-use Rattle.cluster_model.specs.ClusterMachine.{cluster_meaning}
+use Rattle.fsm_model.specs.ClusterMachine.{cluster_spec}
 use Rattle.group_model.specs.Messages.{GroupMessage, OfLog, Service}
 use Rattle.group_model.specs.Inputs as inputs
-use Rattle.group_model.specs.Inputs.{Act, Ask, AskTimeout, AskBeat, AskCrash, rests, asks, input_of, event_of}
+use Rattle.group_model.specs.Inputs.{Act, Ask, AskTimeout, AskHeartbeat, AskCrash, rests, asks, input_of, event_of}
 use Rattle.group_model.specs.Servers.{Server, logged, done, decides, wakes, acts}
 use Rattle.group_model.specs.Worlds.{World, Deliver, AtServer, happens, after_turn, message_to, input_to, takes_input, own_input, delivers, raft_of, raft_part, raft_messages, raft_delivery, raft_event, event_at, asked_of, log_request}
 use Rattle.group_safety.proofs.Lists.{map_get, map_length, messages_append}
@@ -78,7 +78,7 @@ module _ (w v : World) (i : ℕ) (s : Server) where
   turn_rests act none (Ok turn) h = none
 
   -- it is not refused where the log's is not
-  turn_goes : (act : Act) (r : Refusal) (res : Result (RaftTurn Command) Refusal) (n : ℕ) (lw y : raft_worlds.World Command) → raft_worlds.after_turn cluster_meaning lw i res ≡ Ok y → after_turn w i (logged s act res) ≡ Err r → ⊥
+  turn_goes : (act : Act) (r : Refusal) (res : Result (RaftTurn Command) Refusal) (n : ℕ) (lw y : raft_worlds.World Command) → raft_worlds.after_turn cluster_spec lw i res ≡ Ok y → after_turn w i (logged s act res) ≡ Err r → ⊥
   turn_goes act r (Err e) n lw y h g = cc
   turn_goes act r (Ok turn) n lw y h g = cc
 
@@ -88,7 +88,7 @@ module _ (w : World) (i : ℕ) (input : inputs.Input) (ask : Ask)
     (its_own : own_input w i input ≡ takes_input w i input)
     (awake : (s : Server) → acts (length w.servers) i s input ≡ Ok (asks ask s.desk))
     (down : (s : Server) → wakes s input ≡ Err refusals.Down)
-    (sleeps : (n : ℕ) (t : Raft Command) → is_up t.mode ≡ false → raft_steps.step cluster_meaning n i t (input_of ask) ≡ Err refusals.Down) where
+    (sleeps : (n : ℕ) (t : Raft Command) → is_up t.mode ≡ false → raft_steps.step cluster_spec n i t (input_of ask) ≡ Err refusals.Down) where
   decided : (s : Server) → is_up s.raft.mode ≡ true → decides (length w.servers) i s input ≡ Ok (asks ask s.desk)
   decided s on = rw on (awake s)
 
@@ -100,7 +100,7 @@ module _ (w : World) (i : ℕ) (input : inputs.Input) (ask : Ask)
     server : Server
     here : slice_get w.servers i ≡ Some server
     on : is_up server.raft.mode ≡ true
-    turn : after_turn w i (logged server (asks ask server.desk) (raft_steps.step cluster_meaning (length w.servers) i server.raft (input_of ask))) ≡ Ok v
+    turn : after_turn w i (logged server (asks ask server.desk) (raft_steps.step cluster_spec (length w.servers) i server.raft (input_of ask))) ≡ Ok v
 
   own_turn : (v : World) (o : Option Server) → slice_get w.servers i ≡ o → input_to w i input o ≡ Ok v → OwnTurn v
   own_turn v None is h = absurd (cc)
@@ -114,14 +114,14 @@ module _ (w : World) (i : ℕ) (input : inputs.Input) (ask : Ask)
     the_turn = own_turn v (slice_get w.servers i) refl (sym its_own ∙ h)
 
     pub own_sent : (ms : List (Message Command)) × (v.sent ≡ w.sent ++ map OfLog ms)
-    own_sent = let o = the_turn in let s = o.server in turn_sent w v i s (asks ask s.desk) refl (raft_steps.step cluster_meaning (length w.servers) i s.raft (input_of ask)) o.turn
+    own_sent = let o = the_turn in let s = o.server in turn_sent w v i s (asks ask s.desk) refl (raft_steps.step cluster_spec (length w.servers) i s.raft (input_of ask)) o.turn
 
     pub own_work : work_of w (AtServer i input) ≡ []
     own_work =
         let o = the_turn in
         let s = o.server in
         ap (λ z. input_work w i input z) o.here
-        ∙ (ap (λ z. turn_work (done (length w.servers) i s z)) (decided s o.on) ∙ turn_rests w v i s (asks ask s.desk) refl (raft_steps.step cluster_meaning (length w.servers) i s.raft (input_of ask)) o.turn)
+        ∙ (ap (λ z. turn_work (done (length w.servers) i s z)) (decided s o.on) ∙ turn_rests w v i s (asks ask s.desk) refl (raft_steps.step cluster_spec (length w.servers) i s.raft (input_of ask)) o.turn)
 
     pub own_asked : raft_event w (AtServer i input) ≡ Some (event_of i ask)
     own_asked =
@@ -129,25 +129,25 @@ module _ (w : World) (i : ℕ) (input : inputs.Input) (ask : Ask)
         let s = o.server in
         ap (λ z. event_at i (asked_of w i input z)) o.here ∙ ap (λ z. event_at i (log_request z)) (decided s o.on)
 
-    pub own_log : raft_worlds.happens cluster_meaning (raft_of w) (event_of i ask) ≡ Ok (raft_of v)
+    pub own_log : raft_worlds.happens cluster_spec (raft_of w) (event_of i ask) ≡ Ok (raft_of v)
     own_log = subst (λ z. Moves w v z) own_asked (event_moves w v (AtServer i input) h)
 
   -- it is not refused where the log takes it
-  pub own_goes : (r : Refusal) (o : Option (Raft Command)) → slice_get (map raft_part w.servers) i ≡ o → (y : raft_worlds.World Command) → raft_worlds.input_to cluster_meaning (raft_of w) i (input_of ask) o ≡ Ok y → happens w (AtServer i input) ≡ Err r → ⊥
+  pub own_goes : (r : Refusal) (o : Option (Raft Command)) → slice_get (map raft_part w.servers) i ≡ o → (y : raft_worlds.World Command) → raft_worlds.input_to cluster_spec (raft_of w) i (input_of ask) o ≡ Ok y → happens w (AtServer i input) ≡ Err r → ⊥
   own_goes r None there y h g = cc
   own_goes r (Some t) there y h g = elim (bool_cases (is_up t.mode)) [
-    | inr off ↦ let q : raft_worlds.after_turn cluster_meaning (raft_of w) i (Err refusals.Down) ≡ Ok y = sym (ap (λ z. raft_worlds.after_turn cluster_meaning (raft_of w) i z) (sleeps (length (map raft_part w.servers)) t off)) ∙ h in cc
+    | inr off ↦ let q : raft_worlds.after_turn cluster_spec (raft_of w) i (Err refusals.Down) ≡ Ok y = sym (ap (λ z. raft_worlds.after_turn cluster_spec (raft_of w) i z) (sleeps (length (map raft_part w.servers)) t off)) ∙ h in cc
     | inl on ↦
         let x = map_get raft_part w.servers i t there in
         let s = x.0 in
         let up : is_up s.raft.mode ≡ true = ap (λ (z : Raft Command). is_up z.mode) x.2 ∙ on in
         let size = map_length raft_part w.servers in
-        let log : raft_worlds.after_turn cluster_meaning (raft_of w) i (raft_steps.step cluster_meaning (length w.servers) i s.raft (input_of ask)) ≡ Ok y =
-        ap (λ z. raft_worlds.after_turn cluster_meaning (raft_of w) i (raft_steps.step cluster_meaning (length w.servers) i z (input_of ask))) x.2
-        ∙ (ap (λ c. raft_worlds.after_turn cluster_meaning (raft_of w) i (raft_steps.step cluster_meaning c i t (input_of ask))) (sym size) ∙ h) in
-        let group : after_turn w i (logged s (asks ask s.desk) (raft_steps.step cluster_meaning (length w.servers) i s.raft (input_of ask))) ≡ Err r =
+        let log : raft_worlds.after_turn cluster_spec (raft_of w) i (raft_steps.step cluster_spec (length w.servers) i s.raft (input_of ask)) ≡ Ok y =
+        ap (λ z. raft_worlds.after_turn cluster_spec (raft_of w) i (raft_steps.step cluster_spec (length w.servers) i z (input_of ask))) x.2
+        ∙ (ap (λ c. raft_worlds.after_turn cluster_spec (raft_of w) i (raft_steps.step cluster_spec c i t (input_of ask))) (sym size) ∙ h) in
+        let group : after_turn w i (logged s (asks ask s.desk) (raft_steps.step cluster_spec (length w.servers) i s.raft (input_of ask))) ≡ Err r =
         sym (ap (λ z. after_turn w i (done (length w.servers) i s z)) (decided s up)) ∙ (sym (ap (λ z. input_to w i input z) x.1) ∙ (sym its_own ∙ g)) in
-        turn_goes w w i s (asks ask s.desk) r (raft_steps.step cluster_meaning (length w.servers) i s.raft (input_of ask)) 0 (raft_of w) y log group
+        turn_goes w w i s (asks ask s.desk) r (raft_steps.step cluster_spec (length w.servers) i s.raft (input_of ask)) 0 (raft_of w) y log group
   ]
 
 -- ---- a message of the log
@@ -159,7 +159,7 @@ module _ (w : World) (q : ℕ) (z : Message Command) (at : slice_get w.sent q �
   record LogTurn (v : World) : Type 0 where
     server : Server
     here : slice_get w.servers z.to ≡ Some server
-    turn : after_turn w z.to (logged server (rests server.desk) (raft_steps.step cluster_meaning (length w.servers) z.to server.raft (raft_steps.Arrives z))) ≡ Ok v
+    turn : after_turn w z.to (logged server (rests server.desk) (raft_steps.step cluster_spec (length w.servers) z.to server.raft (raft_steps.Arrives z))) ≡ Ok v
 
   log_turn : (v : World) (o : Option Server) → slice_get w.servers z.to ≡ o → message_to w z.to z o ≡ Ok v → LogTurn v
   log_turn v None is h = absurd (cc)
@@ -170,31 +170,31 @@ module _ (w : World) (q : ℕ) (z : Message Command) (at : slice_get w.sent q �
     its_turn = log_turn v (slice_get w.servers z.to) refl (sym (ap (λ o. delivers w o) at) ∙ h)
 
     pub message_sent : (ms : List (Message Command)) × (v.sent ≡ w.sent ++ map OfLog ms)
-    message_sent = let o = its_turn in let s = o.server in turn_sent w v z.to s (rests s.desk) refl (raft_steps.step cluster_meaning (length w.servers) z.to s.raft (raft_steps.Arrives z)) o.turn
+    message_sent = let o = its_turn in let s = o.server in turn_sent w v z.to s (rests s.desk) refl (raft_steps.step cluster_spec (length w.servers) z.to s.raft (raft_steps.Arrives z)) o.turn
 
     pub message_work : work_of w (Deliver q) ≡ []
     message_work =
         let o = its_turn in
         let s = o.server in
         ap (λ (y : Option GroupMessage). sent_work w y) at
-        ∙ (ap (λ y. log_work w z.to z y) o.here ∙ turn_rests w v z.to s (rests s.desk) refl (raft_steps.step cluster_meaning (length w.servers) z.to s.raft (raft_steps.Arrives z)) o.turn)
+        ∙ (ap (λ y. log_work w z.to z y) o.here ∙ turn_rests w v z.to s (rests s.desk) refl (raft_steps.step cluster_spec (length w.servers) z.to s.raft (raft_steps.Arrives z)) o.turn)
 
     pub message_asked : raft_event w (Deliver q) ≡ Some (raft_worlds.Deliver its_place)
     message_asked = ap (λ o. raft_delivery w q o) at
 
-    pub message_log : raft_worlds.happens cluster_meaning (raft_of w) (raft_worlds.Deliver its_place) ≡ Ok (raft_of v)
+    pub message_log : raft_worlds.happens cluster_spec (raft_of w) (raft_worlds.Deliver its_place) ≡ Ok (raft_of v)
     message_log = subst (λ y. Moves w v y) message_asked (event_moves w v (Deliver q) h)
 
   -- it is not refused where the log takes it
-  pub message_goes : (r : Refusal) (o : Option (Raft Command)) → slice_get (map raft_part w.servers) z.to ≡ o → (y : raft_worlds.World Command) → raft_worlds.input_to cluster_meaning (raft_of w) z.to (raft_steps.Arrives z) o ≡ Ok y → happens w (Deliver q) ≡ Err r → ⊥
+  pub message_goes : (r : Refusal) (o : Option (Raft Command)) → slice_get (map raft_part w.servers) z.to ≡ o → (y : raft_worlds.World Command) → raft_worlds.input_to cluster_spec (raft_of w) z.to (raft_steps.Arrives z) o ≡ Ok y → happens w (Deliver q) ≡ Err r → ⊥
   message_goes r None there y h g = cc
   message_goes r (Some t) there y h g =
       let x = map_get raft_part w.servers z.to t there in
       let s = x.0 in
       let size = map_length raft_part w.servers in
-      let log : raft_worlds.after_turn cluster_meaning (raft_of w) z.to (raft_steps.step cluster_meaning (length w.servers) z.to s.raft (raft_steps.Arrives z)) ≡ Ok y =
-      ap (λ b. raft_worlds.after_turn cluster_meaning (raft_of w) z.to (raft_steps.step cluster_meaning (length w.servers) z.to b (raft_steps.Arrives z))) x.2
-      ∙ (ap (λ c. raft_worlds.after_turn cluster_meaning (raft_of w) z.to (raft_steps.step cluster_meaning c z.to t (raft_steps.Arrives z))) (sym size) ∙ h) in
-      let group : after_turn w z.to (logged s (rests s.desk) (raft_steps.step cluster_meaning (length w.servers) z.to s.raft (raft_steps.Arrives z))) ≡ Err r =
+      let log : raft_worlds.after_turn cluster_spec (raft_of w) z.to (raft_steps.step cluster_spec (length w.servers) z.to s.raft (raft_steps.Arrives z)) ≡ Ok y =
+      ap (λ b. raft_worlds.after_turn cluster_spec (raft_of w) z.to (raft_steps.step cluster_spec (length w.servers) z.to b (raft_steps.Arrives z))) x.2
+      ∙ (ap (λ c. raft_worlds.after_turn cluster_spec (raft_of w) z.to (raft_steps.step cluster_spec c z.to t (raft_steps.Arrives z))) (sym size) ∙ h) in
+      let group : after_turn w z.to (logged s (rests s.desk) (raft_steps.step cluster_spec (length w.servers) z.to s.raft (raft_steps.Arrives z))) ≡ Err r =
       sym (ap (λ b. message_to w z.to z b) x.1) ∙ (sym (ap (λ o. delivers w o) at) ∙ g) in
-      turn_goes w w z.to s (rests s.desk) r (raft_steps.step cluster_meaning (length w.servers) z.to s.raft (raft_steps.Arrives z)) 0 (raft_of w) y log group
+      turn_goes w w z.to s (rests s.desk) r (raft_steps.step cluster_spec (length w.servers) z.to s.raft (raft_steps.Arrives z)) 0 (raft_of w) y log group

@@ -12,7 +12,7 @@ use Rattle.raft_model.specs.Steps as raft_steps
 use Rattle.raft_model.specs.Worlds as raft_worlds
 use Rattle.raft_safety.proofs.Places.{push_length}
 use Rattle.raft_progress.specs.Recovery.{HasRoom, everybody}
-use Rattle.cluster_model.specs.ClusterMachine.{cluster_meaning}
+use Rattle.fsm_model.specs.ClusterMachine.{cluster_spec}
 use Rattle.group_model.specs.Inputs as inputs
 use Rattle.group_model.specs.Inputs.{Act, AskRestart, asks}
 use Rattle.group_model.specs.Servers.{Server, logged, done, decides}
@@ -33,7 +33,7 @@ use Rattle.recovery.specs.GroupSettling.{group_events_of, is_server_up, GroupSet
 use Rattle.recovery.specs.GroupRestarting.{restart_of, group_restarts_of, GroupRestarted, GroupRestartedUntil, GroupRestartedThen, GroupRecovers, GroupAllHaveRoom, WhyGroupAllUnsettled, AreGroupSettled}
 use Rattle.recovery.specs.Inner.Drives.{HasRun, Known, WentOf, NothingYet}
 use Rattle.recovery.specs.Inner.Kinds.{GroupRuns, group_drive}
-use Rattle.recovery.specs.Inner.Wakings.{IsDown, IsBack, AreBack, nobody, one_more, WokenSoFar, WokenUntil, StaysAsleep, StopsAsleep, GroupBack, group_restarting}
+use Rattle.recovery.specs.Inner.DownServers.{IsDown, IsBack, AreBack, nobody, one_more, RestartedSoFar, WokenUntil, IsLeftDown, RestartsFail, GroupBack, group_restarting}
 use Rattle.recovery.proofs.Goings.{went_none}
 use Rattle.recovery.proofs.GroupDriving.{group_lawful, group_still, group_unmade}
 use Rattle.recovery.proofs.Downs.{nil_end, few_down}
@@ -61,9 +61,9 @@ module _ (w : World) (j : ℕ) (d : IsDown j (raft_of w)) where
   restart_rests =
       let s = its.0 in
       ap (λ z. input_work w j inputs.Restart z) its.1
-      ∙ (ap (λ z. turn_work (done (length w.servers) j s z)) decided ∙ turn_rests s (asks AskRestart s.desk) refl (raft_steps.step cluster_meaning (length w.servers) j s.raft raft_steps.Restart))
+      ∙ (ap (λ z. turn_work (done (length w.servers) j s z)) decided ∙ turn_rests s (asks AskRestart s.desk) refl (raft_steps.step cluster_spec (length w.servers) j s.raft raft_steps.Restart))
 
-  restart_back : (v : World) → happens w (restart_of j) ≡ Ok v → GroupBack w j v × (raft_worlds.happens cluster_meaning (raft_of w) (raft_worlds.Restarts j) ≡ Ok (raft_of v))
+  restart_back : (v : World) → happens w (restart_of j) ≡ Ok v → GroupBack w j v × (raft_worlds.happens cluster_spec (raft_of w) (raft_worlds.Restarts j) ≡ Ok (raft_of v))
   restart_back v h = (
     record { fits = subst (λ o. LogEventFits o) (sym restart_asked) tt; happens = h },
     subst (λ z. Moves w v z) restart_asked (event_moves w v (restart_of j) h),
@@ -72,7 +72,7 @@ module _ (w : World) (j : ℕ) (d : IsDown j (raft_of w)) where
   restart_goes : (r : Refusal) → happens w (restart_of j) ≡ Err r → ⊥
   restart_goes r h =
       let s = its.0 in
-      let log : raft_steps.step cluster_meaning (length w.servers) j s.raft raft_steps.Restart ≡ Ok (silent (restarted s.raft)) = rw its.2 refl in
+      let log : raft_steps.step cluster_spec (length w.servers) j s.raft raft_steps.Restart ≡ Ok (silent (restarted s.raft)) = rw its.2 refl in
       let q : after_turn w j (logged s (asks AskRestart s.desk) (Ok (silent (restarted s.raft)))) ≡ Err r =
       sym (ap (λ z. after_turn w j (logged s (asks AskRestart s.desk) z)) log) ∙ (sym (ap (λ z. after_turn w j (done (length w.servers) j s z)) decided) ∙ (sym (ap (λ z. input_to w j inputs.Restart z) its.1) ∙ h)) in
       cc
@@ -87,7 +87,7 @@ module _ (w : World) (j : ℕ) (d : IsDown j (raft_of w)) where
       cc
 
 module _ (old : GroupView) (j : ℕ) (k : Known group_drive old (λ w. IsDown j w)) (own : Event) (is : own ≡ restart_of j) (new : GroupView) where
-  pub group_restarted_back : GroupEventHappened old own new → WentOf group_drive old new (λ ts w v. IsBack cluster_meaning group_drive group_restarting j ts w v)
+  pub group_restarted_back : GroupEventHappened old own new → WentOf group_drive old new (λ ts w v. IsBack cluster_spec group_drive group_restarting j ts w v)
   group_restarted_back h =
       let run = k.runs in
       let here = run.runs in (
@@ -96,7 +96,7 @@ module _ (old : GroupView) (j : ℕ) (k : Known group_drive old (λ w. IsDown j 
           size = h.size;
           stays = record {
             nodes = h.nodes;
-            work = h.work k.moment here.represents ∙ (ap (λ l. (let o = old.outbox in o.work) ++ l) (ap (work_of k.moment) is ∙ restart_rests k.moment j (k.ever k.past k.moment k.runs)) ∙ append-nil (let o = old.outbox in o.work));
+            work = h.work k.moment here.refines ∙ (ap (λ l. (let o = old.outbox in o.work) ++ l) (ap (work_of k.moment) is ∙ restart_rests k.moment j (k.ever k.past k.moment k.runs)) ∙ append-nil (let o = old.outbox in o.work));
           };
           trace = h.trace;
           runs = λ past w r.
@@ -109,17 +109,17 @@ module _ (old : GroupView) (j : ℕ) (k : Known group_drive old (λ w. IsDown j 
         },
       )
 
-  pub group_asleep_by : GroupActorCrashed old own new ⊎ GroupStaysDown old own new → StaysAsleep group_drive j old new (Crashed j)
+  pub group_asleep_by : GroupActorCrashed old own new ⊎ GroupStaysDown old own new → IsLeftDown group_drive j old new (Crashed j)
   group_asleep_by (inl c) =
       let run = k.runs in
       let here = run.runs in
       let h = c.happened in
-      let n = h.worlds k.moment here.represents in
-      let same : AtServer j inputs.Crash ≡ c.crash = same_Some (AtServer j inputs.Crash) c.crash (subst (λ e. crash_of k.moment e ≡ Some c.crash) is (c.actor k.moment here.represents)) in
+      let n = h.worlds k.moment here.refines in
+      let same : AtServer j inputs.Crash ≡ c.crash = same_Some (AtServer j inputs.Crash) c.crash (subst (λ e. crash_of k.moment e ≡ Some c.crash) is (c.actor k.moment here.refines)) in
       absurd (no_crash k.moment j (k.ever k.past k.moment k.runs) n.0 (ap (happens k.moment) same ∙ n.1))
   group_asleep_by (inr d) = (refl, subst (λ q. WentOf group_drive old q (λ ts w v. NothingYet group_drive ts w v)) (sym d.same) (group_unmade old))
 
-  pub group_same_asleep : SameView old new → StaysAsleep group_drive j old new NoMemory
+  pub group_same_asleep : SameView old new → IsLeftDown group_drive j old new NoMemory
   group_same_asleep same = group_still old new same
 
   pub group_restart_not_refused : (cause : Refusal) → RefusesGroupEvent old own cause → ⊥
@@ -128,7 +128,7 @@ module _ (old : GroupView) (j : ℕ) (k : Known group_drive old (λ w. IsDown j 
       restart_goes k.moment j (k.ever k.past k.moment k.runs) cause (ap (happens k.moment) (sym is) ∙ h k.past k.moment run.runs)
 
 -- memory was wanting to make the event
-pub group_unmade_asleep : (old : GroupView) (j : ℕ) → StaysAsleep group_drive j old old NoMemory
+pub group_unmade_asleep : (old : GroupView) (j : ℕ) → IsLeftDown group_drive j old old NoMemory
 group_unmade_asleep old j = group_unmade old
 
 -- ---- some restarts
@@ -140,7 +140,7 @@ record ManyBack (w : World) (back : List ℕ) (v : World) : Type 0 where
   are : group_restarts_of w count v restarted ≡ map restart_of back
   many : count ≡ length back
 
-many_back : (w : World) (back : List ℕ) (v : World) → AreBack cluster_meaning group_drive group_restarting w back v → ManyBack w back v
+many_back : (w : World) (back : List ℕ) (v : World) → AreBack cluster_spec group_drive group_restarting w back v → ManyBack w back v
 unfolding group_restarts_of
 many_back w back v nobody = record { count = 0; restarted = no_restart; are = refl; many = refl }
 many_back w back v (one_more {back = earlier} {x = x} j y b h) =
@@ -152,7 +152,7 @@ many_back w back v (one_more {back = earlier} {x = x} j y b h) =
       many = omega (arith, old.many, push_length earlier j);
     }
 
-until : (n who : ℕ) (ts : List Event) (w v : World) → WokenUntil cluster_meaning group_drive group_restarting n who ts w v → GroupRestartedUntil n who ts w v
+until : (n who : ℕ) (ts : List Event) (w v : World) → WokenUntil cluster_spec group_drive group_restarting n who ts w v → GroupRestartedUntil n who ts w v
 until n who ts w v s =
     let b = many_back w s.before v s.back in
     (s.later, record { back = s.before; were_down = s.were_down; restarts = b.count; restarted = b.restarted; restarts_are = b.are ∙ sym s.taken_are; taken_are = s.taken_are })
@@ -177,7 +177,7 @@ of_everybody n x up c = record {
   desk = c.desk;
 }
 
-module _ (n : ℕ) (ts us : List Event) (w x v : World) (s : WokenSoFar cluster_meaning group_drive group_restarting n ts w x) where
+module _ (n : ℕ) (ts us : List Event) (w x v : World) (s : RestartedSoFar cluster_spec group_drive group_restarting n ts w x) where
   back : ManyBack w (downs n (raft_of w)) x
   back = many_back w (downs n (raft_of w)) x s.back
 
@@ -224,7 +224,7 @@ module _ (old : GroupView) (h : HasRun group_drive old) (fit : NodesFit (nodes_o
         },
       )
 
-  module _ (mid : GroupView) (g : WentOf group_drive old mid (λ ts w v. WokenSoFar cluster_meaning group_drive group_restarting (length old.servers) ts w v)) where
+  module _ (mid : GroupView) (g : WentOf group_drive old mid (λ ts w v. RestartedSoFar cluster_spec group_drive group_restarting (length old.servers) ts w v)) where
     went_of : (new : GroupView) (R : List Event → World → World → Type 0) → GroupGoes mid new R → WentOf group_drive mid new R
     went_of new R q =
         let one = q.1 in (
@@ -243,13 +243,13 @@ module _ (old : GroupView) (h : HasRun group_drive old) (fit : NodesFit (nodes_o
     roomy past w r = room past w r.runs
 
     up_in_mid : Known group_drive mid (λ v. Quorum (length old.servers) (is_up_in v) × HasRoom (length old.servers) (is_up_in v) v)
-    up_in_mid = all_up cluster_meaning group_drive group_lawful group_restarting old mid h group roomy g
+    up_in_mid = all_up cluster_spec group_drive group_lawful group_restarting old mid h group roomy g
 
     same_size : length mid.servers ≡ all_n
     same_size = let one = g.1 in one.size
 
-    then_goes : (new : GroupView) (R Q : List Event → World → World → Type 0) → GroupGoes mid new R → ((ts us : List Event) (w x v : World) → WokenSoFar cluster_meaning group_drive group_restarting all_n ts w x → R us x v → Q (ts ++ us) w v) → GroupGoes old new Q
-    then_goes new R Q more f = goes_of new Q Q (further cluster_meaning group_drive group_lawful group_restarting old mid h group roomy g new R Q (went_of new R more) f) (λ ts w v q. q)
+    then_goes : (new : GroupView) (R Q : List Event → World → World → Type 0) → GroupGoes mid new R → ((ts us : List Event) (w x v : World) → RestartedSoFar cluster_spec group_drive group_restarting all_n ts w x → R us x v → Q (ts ++ us) w v) → GroupGoes old new Q
+    then_goes new R Q more f = goes_of new Q Q (further cluster_spec group_drive group_lawful group_restarting old mid h group roomy g new R Q (went_of new R more) f) (λ ts w v q. q)
 
     pub are_group_settled : (new : GroupView) (who : ℕ) → IsGroupSettled mid new who → AreGroupSettled old new who
     are_group_settled new who s = record {
@@ -273,8 +273,8 @@ module _ (old : GroupView) (h : HasRun group_drive old) (fit : NodesFit (nodes_o
     why_group_all_unsettled new (Crashed who) q = (room, then_goes new (λ us x v. GroupFell who us x v) _ q.2 (λ ts us w x v a b. inr (restarted_then all_n ts us w x v a (λ calm y z. GroupFell who calm y z) b)))
 
   -- or not all could restart
-  pub why_group_asleep : (new : GroupView) (why : Unsettled) → StopsAsleep cluster_meaning group_drive group_restarting old new why → WhyGroupAllUnsettled old new why
+  pub why_group_asleep : (new : GroupView) (why : Unsettled) → RestartsFail cluster_spec group_drive group_restarting old new why → WhyGroupAllUnsettled old new why
   why_group_asleep new NoQuorum q = q
   why_group_asleep new Exhausted q = absurd q
-  why_group_asleep new NoMemory q = (room, goes_of new (λ ts w v. (who : ℕ) × WokenUntil cluster_meaning group_drive group_restarting all_n who ts w v) _ q (λ ts w v c. inl (c.0, until all_n c.0 ts w v c.1)))
-  why_group_asleep new (Crashed who) q = (room, goes_of new (λ ts w v. WokenUntil cluster_meaning group_drive group_restarting all_n who ts w v) _ q (λ ts w v c. inl (until all_n who ts w v c)))
+  why_group_asleep new NoMemory q = (room, goes_of new (λ ts w v. (who : ℕ) × WokenUntil cluster_spec group_drive group_restarting all_n who ts w v) _ q (λ ts w v c. inl (c.0, until all_n c.0 ts w v c.1)))
+  why_group_asleep new (Crashed who) q = (room, goes_of new (λ ts w v. WokenUntil cluster_spec group_drive group_restarting all_n who ts w v) _ q (λ ts w v c. inl (until all_n who ts w v c)))

@@ -5,13 +5,13 @@ use Rattle.std.proofs.lemmas.Option.{same_Some}
 use Rattle.rows.specs.declared.refusal.Refusal.{Refusal}
 use Rattle.rows.specs.declared.actor.Actor.TheVariants as actors
 use Rattle.wire.specs.Frames.{Frame}
-use Rattle.machine_model.specs.Meaning.{Meaning}
+use Rattle.machine_model.specs.MachineSpec.{MachineSpec}
 use Rattle.raft_model.specs.Messages.{Message}
 use Rattle.raft_model.specs.Worlds as raft_worlds
 use Rattle.raft_model.specs.Worlds.{World, Event, Deliver, TimesOut, Beats, Crashes, happens, delivers}
 use Rattle.raft_core.specs.Frames.{FrameCarries}
 use Rattle.raft_core.specs.RaftView.{RaftView}
-use Rattle.raft_core.specs.Steps.{Represents}
+use Rattle.raft_core.specs.Steps.{Refines}
 use Rattle.raft_safety.proofs.Places.{get-within}
 use Rattle.group_inputs.specs.Events.{position_of}
 use Rattle.world.specs.WorldView.{WorldView, RunsTo}
@@ -34,7 +34,7 @@ use Rattle.recovery.proofs.Goings.{nil_end}
 pub place_of : (place : ℕ) → position_of (place + 1) ≡ place
 place_of place = let e : place + 1 ≡ suc place = omega arith in ap position_of e
 
-module _ {S C : Type 0} (m : Meaning S C) where
+module _ {S C : Type 0} (m : MachineSpec S C) where
   pub log_lawful : LawfulDrive m (log_drive m)
   log_lawful = record {
     one = λ view past past2 w w2 r r2. let q = runs_are_one m view past past2 w w2 r r2 in q.1;
@@ -51,13 +51,13 @@ module _ {S C : Type 0} (m : Meaning S C) where
   -- ---- what is read
 
   pub sent_length : (view : WorldView S C) (count : ℕ) → count ≡ length view.sent → EverOf (log_drive m) view (λ w. count ≡ length w.sent)
-  sent_length view count is past w r = let st = r.represents in is ∙ zip_length (FrameCarries m) view.sent w.sent st.sent
+  sent_length view count is past w r = let st = r.refines in is ∙ zip_length (FrameCarries m) view.sent w.sent st.sent
 
   pub is_there : (view : WorldView S C) (k : ℕ) (h : RaftView S C) → slice_get view.servers k ≡ Some h → StandsThere (log_drive m) m k h view
-  is_there view k h here past w r = let st = r.represents in zip_at (Represents m) view.servers w.servers k h st.servers here
+  is_there view k h here past w r = let st = r.refines in zip_at (Refines m) view.servers w.servers k h st.servers here
 
   pub is_not_there : (view : WorldView S C) (k : ℕ) → slice_get view.servers k ≡ None → NoneThere (log_drive m) k view
-  is_not_there view k none past w r = let st = r.represents in zip_none (Represents m) view.servers w.servers k st.servers none
+  is_not_there view k none past w r = let st = r.refines in zip_none (Refines m) view.servers w.servers k st.servers none
 
   -- a look-up of a server
   pub some_there : (view : WorldView S C) (k : ℕ) (r : Option (Bor (RaftView S C))) → option_copied r ≡ slice_get view.servers k → IfSome r (λ x. StandsThere (log_drive m) m k x.now view)
@@ -71,7 +71,7 @@ module _ {S C : Type 0} (m : Meaning S C) where
   -- who is to receive a message
   pub is_for : (view : WorldView S C) (place k : ℕ) (frame : Frame) → slice_get view.sent place ≡ Some frame → frame.to ≡ actors.Server k → EverAt (log_drive m) view place (λ p w. GoesTo (Some k) p w)
   is_for view place k frame at to past w r p same z there =
-      let st = r.represents in
+      let st = r.refines in
       let f = zip_at (FrameCarries m) view.sent w.sent place frame st.sent at in
       let c = f.2 in
       let one : f.0 ≡ z = same_Some f.0 z (sym f.1 ∙ (ap (slice_get w.sent) same ∙ there)) in
@@ -81,14 +81,14 @@ module _ {S C : Type 0} (m : Meaning S C) where
 
   pub is_for_client : (view : WorldView S C) (place k : ℕ) (frame : Frame) → slice_get view.sent place ≡ Some frame → frame.to ≡ actors.Client k → EverAt (log_drive m) view place (λ p w. GoesTo None p w)
   is_for_client view place k frame at to past w r p same z there =
-      let st = r.represents in
+      let st = r.refines in
       let f = zip_at (FrameCarries m) view.sent w.sent place frame st.sent at in
       let c = f.2 in
       absurd (let its : actors.Client k ≡ actors.Server (f.0).to = sym to ∙ c.to in cc)
 
   pub is_for_none : (view : WorldView S C) (place : ℕ) → slice_get view.sent place ≡ None → EverAt (log_drive m) view place (λ p w. GoesTo None p w)
   is_for_none view place none past w r p same z there =
-      let st = r.represents in
+      let st = r.refines in
       absurd (let q = sym (zip_none (FrameCarries m) view.sent w.sent place st.sent none) ∙ (ap (slice_get w.sent) same ∙ there) in cc)
 
   -- ---- an event
@@ -150,7 +150,7 @@ module _ {S C : Type 0} (m : Meaning S C) where
               trace = z.trace;
               runs = λ past w r.
                   let n = z.runs past w r in
-                  let st = r.represents in
+                  let st = r.refines in
                   let can = k.ever past w r in
                   let goes = can.2 in
                   let named : own ≡ can.0 = is ∙ sym (is_event event w can.0 can.1) in

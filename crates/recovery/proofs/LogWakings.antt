@@ -5,7 +5,7 @@ use Rattle.std.proofs.lemmas.Option.{same_Some}
 use Rattle.rows.specs.declared.refusal.Refusal.{Refusal}
 use Rattle.rows.specs.declared.refusal.Refusal.TheVariants as refusals
 use Rattle.rows.specs.GroupSizes.{IsGroup}
-use Rattle.machine_model.specs.Meaning.{Meaning}
+use Rattle.machine_model.specs.MachineSpec.{MachineSpec}
 use Rattle.raft_model.specs.Quorums.{Quorum}
 use Rattle.raft_model.specs.Steps.{Crash, step}
 use Rattle.raft_model.specs.Worlds.{World, Event, Restarts, Crashes, happens, input_to, after_turn}
@@ -20,13 +20,13 @@ use Rattle.recovery.specs.Settling.{Goes, Fell, WhyUnsettled, IsSettled}
 use Rattle.recovery.specs.Restarting.{downs, restarts_of, Restarted, RestartedUntil, RestartedThen, Recovers, AllHaveRoom, WhyAllUnsettled, AreSettled}
 use Rattle.recovery.specs.Inner.Drives.{HasRun, Known, WentOf, NothingYet}
 use Rattle.recovery.specs.Inner.Kinds.{log_drive}
-use Rattle.recovery.specs.Inner.Wakings.{IsDown, IsBack, AreBack, nobody, one_more, WokenSoFar, WokenUntil, StaysAsleep, StopsAsleep, log_restarting}
+use Rattle.recovery.specs.Inner.DownServers.{IsDown, IsBack, AreBack, nobody, one_more, RestartedSoFar, WokenUntil, IsLeftDown, RestartsFail, log_restarting}
 use Rattle.recovery.proofs.Goings.{went_none}
 use Rattle.recovery.proofs.LogDriving.{log_lawful, still}
 use Rattle.recovery.proofs.Downs.{nil_end, few_down, restart_happens, of_everybody}
 use Rattle.recovery.proofs.Wakings.{all_up, further}
 
-module _ {S C : Type 0} (m : Meaning S C) where
+module _ {S C : Type 0} (m : MachineSpec S C) where
   -- ---- one restart
 
   module _ (old : WorldView S C) (j : ℕ) (k : Known (log_drive m) old (λ w. IsDown j w)) (new : WorldView S C) where
@@ -43,16 +43,16 @@ module _ {S C : Type 0} (m : Meaning S C) where
         let q = sym h ∙ (ap (input_to m w j Crash) d.1 ∙ ap (after_turn m w j) refused) in
         cc
 
-    pub asleep_by : ActorCrashed m old (Restarts j) new ⊎ StaysDown m old (Restarts j) new → StaysAsleep (log_drive m) j old new (Crashed j)
+    pub asleep_by : ActorCrashed m old (Restarts j) new ⊎ StaysDown m old (Restarts j) new → IsLeftDown (log_drive m) j old new (Crashed j)
     asleep_by (inl c) =
         let r = k.runs in
         let h = c.happened in
-        let n = h.worlds k.moment r.represents in
-        let same : j ≡ c.who = same_Some j c.who (c.actor k.moment r.represents) in
+        let n = h.worlds k.moment r.refines in
+        let same : j ≡ c.who = same_Some j c.who (c.actor k.moment r.refines) in
         absurd (no_crash k.moment n.0 (k.ever k.past k.moment k.runs) (ap (λ q. happens m k.moment (Crashes q)) same ∙ n.1))
     asleep_by (inr d) = (refl, subst (λ q. WentOf (log_drive m) old q (λ ts w v. NothingYet (log_drive m) ts w v)) (sym d.same) (went_none m (log_drive m) (log_lawful m) old (λ ts w v. NothingYet (log_drive m) ts w v) (λ w. IsDown j w) k (λ w r p. (refl, refl))))
 
-    pub same_asleep : SameWorld old new → StaysAsleep (log_drive m) j old new NoMemory
+    pub same_asleep : SameWorld old new → IsLeftDown (log_drive m) j old new NoMemory
     same_asleep same = still m old new same
 
     pub restart_not_refused : (cause : Refusal) → RefusesEvent m old (Restarts j) cause → ⊥
@@ -87,7 +87,7 @@ module _ {S C : Type 0} (m : Meaning S C) where
       let b = log_back w s.before v s.back in
       (s.later, record { back = s.before; were_down = s.were_down; restarts = b.count; restarted = b.restarted; restarts_are = b.are ∙ sym s.taken_are; taken_are = s.taken_are })
 
-  module _ (n : ℕ) (ts us : List (Event C)) (w x v : World C) (s : WokenSoFar m (log_drive m) (log_restarting m) n ts w x) where
+  module _ (n : ℕ) (ts us : List (Event C)) (w x v : World C) (s : RestartedSoFar m (log_drive m) (log_restarting m) n ts w x) where
     its : LogBack w (downs n w) x
     its = log_back w (downs n w) x s.back
 
@@ -125,14 +125,14 @@ module _ {S C : Type 0} (m : Meaning S C) where
     abbrev all_n : ℕ
     all_n = length old.servers
 
-    module _ (mid : WorldView S C) (g : WentOf (log_drive m) old mid (λ ts w v. WokenSoFar m (log_drive m) (log_restarting m) (length old.servers) ts w v)) where
+    module _ (mid : WorldView S C) (g : WentOf (log_drive m) old mid (λ ts w v. RestartedSoFar m (log_drive m) (log_restarting m) (length old.servers) ts w v)) where
       up_in_mid : Known (log_drive m) mid (λ v. Quorum (length old.servers) (is_up_in v) × HasRoom (length old.servers) (is_up_in v) v)
       up_in_mid = all_up m (log_drive m) (log_lawful m) (log_restarting m) old mid h group room g
 
       same_size : length mid.servers ≡ all_n
       same_size = let one = g.1 in one.size
 
-      then_goes : (new : WorldView S C) (R Q : List (Event C) → World C → World C → Type 0) → Goes m mid new R → ((ts us : List (Event C)) (w x v : World C) → WokenSoFar m (log_drive m) (log_restarting m) all_n ts w x → R us x v → Q (ts ++ us) w v) → Goes m old new Q
+      then_goes : (new : WorldView S C) (R Q : List (Event C) → World C → World C → Type 0) → Goes m mid new R → ((ts us : List (Event C)) (w x v : World C) → RestartedSoFar m (log_drive m) (log_restarting m) all_n ts w x → R us x v → Q (ts ++ us) w v) → Goes m old new Q
       then_goes new R Q more f = goes_of old new Q Q (further m (log_drive m) (log_lawful m) (log_restarting m) old mid h group room g new R Q (went_of mid new R more) f) (λ ts w v q. q)
 
       pub are_settled : (new : WorldView S C) (who : ℕ) → IsSettled m mid new who → AreSettled m old new who
@@ -155,7 +155,7 @@ module _ {S C : Type 0} (m : Meaning S C) where
       why_all_unsettled new (Crashed who) q = (room, then_goes new (λ us x v. Fell m who us x v) _ q.2 (λ ts us w x v a b. inr (restarted_then all_n ts us w x v a (λ calm y z. Fell m who calm y z) b)))
 
     -- or not all could restart
-    pub why_asleep : (new : WorldView S C) (why : Unsettled) → StopsAsleep m (log_drive m) (log_restarting m) old new why → WhyAllUnsettled m old new why
+    pub why_asleep : (new : WorldView S C) (why : Unsettled) → RestartsFail m (log_drive m) (log_restarting m) old new why → WhyAllUnsettled m old new why
     why_asleep new NoQuorum q = q
     why_asleep new Exhausted q = absurd q
     why_asleep new NoMemory q = (room, goes_of old new (λ ts w v. (who : ℕ) × WokenUntil m (log_drive m) (log_restarting m) all_n who ts w v) _ q (λ ts w v c. inl (c.0, until all_n c.0 ts w v c.1)))

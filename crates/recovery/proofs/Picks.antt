@@ -3,7 +3,7 @@ use Rattle.std.proofs.Common.{◌≡◌, ℕ, suc, ◌+◌, ◌*◌, ◌<◌, �
 use Rattle.std.proofs.lemmas.Bool.{lt-ltb, eq-eqb, ltb-true, ltb-false, eqb-true, and_from, and_parts, or_left, or_right}
 use Rattle.std.proofs.lemmas.Bool.Decides.{leb_tells}
 use Rattle.std.proofs.lemmas.Option.{same_Some}
-use Rattle.machine_model.specs.Meaning.{Meaning}
+use Rattle.machine_model.specs.MachineSpec.{MachineSpec}
 use Rattle.machine_model.specs.declared.entry.Entry.{Entry}
 use Rattle.raft_model.specs.Logs.{MAX, last_term}
 use Rattle.raft_model.specs.Quorums.{count, Quorum}
@@ -13,7 +13,7 @@ use Rattle.raft_safety.proofs.QuietSteps.{or_either}
 use Rattle.raft_safety.proofs.Places.{get-within}
 use Rattle.raft_model.proofs.Cases.{bool_cases}
 use Rattle.raft_core.specs.RaftView.{RaftView}
-use Rattle.raft_core.specs.Steps.{Represents}
+use Rattle.raft_core.specs.Steps.{Refines}
 use Rattle.raft_progress.proofs.Choosing.{NoOlder, no_older, older_self, older_trans}
 use Rattle.raft_progress.proofs.Settling.{count_none}
 use Rattle.recovery.specs.Runs.{is_up_in}
@@ -101,17 +101,17 @@ abbrev pub BestBelow : {C : Type 0} → ℕ → Option ℕ → ℕ → World C �
 BestBelow n None k w = (j : ℕ) → j < k → is_up_in w j ≡ false
 BestBelow n (Some b) k w = BestSoFar n b k w
 
-module _ {V S C : Type 0} (m : Meaning S C) (d : Drive V S C) (view : V) where
-  pub full_read : (k : ℕ) (h : RaftView S C) → StandsThere d m k h view → (b : Bool) → ((s : Raft C) → Represents m h s → MatchBool b ((is_up s.mode ≡ true) × (Roomy s → ⊥)) (Takes s)) →
+module _ {V S C : Type 0} (m : MachineSpec S C) (d : Drive V S C) (view : V) where
+  pub full_read : (k : ℕ) (h : RaftView S C) → StandsThere d m k h view → (b : Bool) → ((s : Raft C) → Refines m h s → MatchBool b ((is_up s.mode ≡ true) × (Roomy s → ⊥)) (Takes s)) →
       MatchBool b (Ever d view (λ w. IsFull k w)) (Ever d view (λ w. HasPlace k w))
   full_read k h here true says = λ past w r. let z = read m d view k h (λ s. (is_up s.mode ≡ true) × (Roomy s → ⊥)) here says past w r in (z.0, z.1, z.2.0, z.2.1)
   full_read k h here false says = read_each m d view k h Takes here says
 
-  pub older_read : (j k : ℕ) (a b : RaftView S C) → StandsThere d m j a view → StandsThere d m k b view → (older : Bool) → ((s t : Raft C) → Represents m a s → Represents m b t → older ≡ is_older_log s.log t.log) → Ever d view (λ w. IsOlder j k older w)
+  pub older_read : (j k : ℕ) (a b : RaftView S C) → StandsThere d m j a view → StandsThere d m k b view → (older : Bool) → ((s t : Raft C) → Refines m a s → Refines m b t → older ≡ is_older_log s.log t.log) → Ever d view (λ w. IsOlder j k older w)
   older_read j k a b one two older says past w r s t at there2 =
-      says s t (read_each m d view j a (λ q. Represents m a q) one (λ q z. z) past w r s at) (read_each m d view k b (λ q. Represents m b q) two (λ q z. z) past w r t there2)
+      says s t (read_each m d view j a (λ q. Refines m a q) one (λ q z. z) past w r s at) (read_each m d view k b (λ q. Refines m b q) two (λ q z. z) past w r t there2)
 
-module _ {V S C : Type 0} (m : Meaning S C) (d : Drive V S C) (dl : LawfulDrive m d) (view : V) where
+module _ {V S C : Type 0} (m : MachineSpec S C) (d : Drive V S C) (dl : LawfulDrive m d) (view : V) where
   -- ---- the quorum
 
   pub count_start : Ever d view (λ w. CountIs 0 0 w)

@@ -4,12 +4,12 @@ use Rattle.std.proofs.lemmas.Bool.{ltb-true, ltb-false, eqb-true, eqb-false}
 use Rattle.std.proofs.lemmas.Bool.Decides.{eqb_tells, leb_tells}
 use Rattle.std.proofs.lemmas.List.{length-append}
 use Rattle.std.proofs.lemmas.Option.{same_Some}
-use Rattle.machine_model.specs.Meaning.{Meaning}
+use Rattle.machine_model.specs.MachineSpec.{MachineSpec}
 use Rattle.raft_model.specs.Logs.{MAX, last_term}
 use Rattle.raft_model.specs.Quorums.{index_at}
 use Rattle.raft_model.specs.Messages.{Message, Body, VoteRequest, VoteReply, to_others}
 use Rattle.machine_model.specs.declared.entry.Entry.{Entry}
-use Rattle.raft_model.specs.Rafts.{Raft, RaftTurn, is_up, is_leader, is_up_to_date, silent, stood, vote_request_to, beat_body, beat_message}
+use Rattle.raft_model.specs.Rafts.{Raft, RaftTurn, is_up, is_leader, is_up_to_date, silent, election_started, vote_request_to, beat_body, beat_message}
 use Rattle.raft_model.specs.Steps.{Arrives, Timeout, Beat, step}
 use Rattle.raft_model.specs.Worlds.{World, Event, Deliver, TimesOut, Beats, happens}
 use Rattle.raft_model.proofs.Cases.{bool_cases, same_ok}
@@ -21,7 +21,7 @@ use Rattle.raft_progress.proofs.Answering.{answer, beats_now}
 use Rattle.raft_progress.proofs.Leaders.{leads_in}
 use Rattle.raft_progress.proofs.Rising.{SaysNo, lowered, denies, turns_down, told_step}
 use Rattle.recovery.specs.Runs.{is_up_in}
-use Rattle.recovery.specs.Inner.Spreads.{SameUp, Ready, Way, Swappable, Acted, it_beats, it_stands, Chosen, Highest, IsBehind, Risen, seat}
+use Rattle.recovery.specs.Inner.Spreads.{SameUp, Ready, Way, Swappable, HasBeatOrTimedOut, it_beats, it_stands, Chosen, Highest, IsBehind, Risen, seat}
 use Rattle.recovery.proofs.Swaps.{turned_up}
 use Rattle.recovery.proofs.Spreads.{up_is}
 use Rattle.recovery.proofs.Ways.{no_way, way_delivery, way_timeout, way_beat}
@@ -85,7 +85,7 @@ get-past (z ∷ zs) ys p x h = ap (slice_get (z ∷ (zs ++ ys))) (let e : suc (l
 
 -- ---- it hears of a later term
 
-module _ {S C : Type 0} (m : Meaning S C) (n i : ℕ) (less_n : i < n) where
+module _ {S C : Type 0} (m : MachineSpec S C) (n i : ℕ) (less_n : i < n) where
   pub record Tell (place : ℕ) (x : World C) (new : Raft C) : Type 0 where
     pub can : Swappable m i place x
     pub up : SameUp x can.second
@@ -233,7 +233,7 @@ module _ {S C : Type 0} (m : Meaning S C) (n i : ℕ) (less_n : i < n) where
             way = way;
           }
 
-      pub tried : (es : List (Event C)) (t b : ℕ) (y : World C) → Acted m i w es t b y → Tried es t b y
+      pub tried : (es : List (Event C)) (t b : ℕ) (y : World C) → HasBeatOrTimedOut m i w es t b y → Tried es t b y
       tried es t b y (it_beats a at leads h) =
           let mine : a ≡ s = same_Some a s (sym at ∙ here) in
           let l = leads_in s.mode (ap (λ (x : Raft C). is_leader x.mode) (sym mine) ∙ leads) in
@@ -246,7 +246,7 @@ module _ {S C : Type 0} (m : Meaning S C) (n i : ℕ) (less_n : i < n) where
           let mine : a ≡ s = same_Some a s (sym at ∙ here) in
           let not_s : is_leader s.mode ≡ false = ap (λ (x : Raft C). is_leader x.mode) (sym mine) ∙ not in
           let f = chosen.room i s chosen.less chosen.up here in
-          let c : Raft C = stood n i s in
+          let c : Raft C = election_started n i s in
           let is = same_ok _ _ (sym h ∙ own_turn m n w i Timeout s (record { server = c; sent = to_others i (vote_request_to i c) n }) size here (stands_now m n i s mine_up not_s (omega (arith, f.0)) (omega (arith, f.1)))) in
           after_turn _ _ _ y c (λ j. VoteRequest (length s.log) (last_term s.log)) is refl refl
           (λ low. (VoteReply c.term false, denies m n i k z c.term (length s.log) (last_term s.log) less_n alive low, tt)) (λ le. omega (arith, f.0)) (omega arith) (omega arith)
@@ -257,7 +257,7 @@ module _ {S C : Type 0} (m : Meaning S C) (n i : ℕ) (less_n : i < n) where
       can_act =
           let f = chosen.room i s chosen.less chosen.up here in (
             λ leads. let l = leads_in s.mode leads in (_, own_turn m n w i Beat s (record { server = s; sent = to_others i (beat_message i s l.0) n }) size here (beats_now m n i s l.0 l.1 l.2 i less_n)),
-            λ not. (_, own_turn m n w i Timeout s (record { server = stood n i s; sent = to_others i (vote_request_to i (stood n i s)) n }) size here (stands_now m n i s mine_up not (omega (arith, f.0)) (omega (arith, f.1)))),
+            λ not. (_, own_turn m n w i Timeout s (record { server = election_started n i s; sent = to_others i (vote_request_to i (election_started n i s)) n }) size here (stands_now m n i s mine_up not (omega (arith, f.0)) (omega (arith, f.1)))),
           )
 
       module _ (es : List (Event C)) (t b : ℕ) (y : World C) (a : Tried es t b y) where

@@ -2,7 +2,7 @@
 use Rattle.std.proofs.Common.{◌≡◌, ℕ, suc, ◌+◌, ◌<◌, ◌≤◌, inl, inr, true, Some, length, refl, sym, ap, ◌∙◌, subst, arith, slice_get, true≢false}
 use Rattle.std.proofs.lemmas.Bool.Decides.{eqb_tells}
 use Rattle.std.proofs.lemmas.Option.{same_Some}
-use Rattle.machine_model.specs.Meaning.{Meaning, LawfulMachine}
+use Rattle.machine_model.specs.MachineSpec.{MachineSpec, LawfulMachine}
 use Rattle.raft_model.specs.Rafts.{Raft, is_leader}
 use Rattle.raft_model.specs.Worlds.{World, Leads}
 use Rattle.raft_safety.proofs.Places.{get-within}
@@ -14,13 +14,13 @@ use Rattle.recovery.specs.Inner.Spreads.{SameUp, Once, Ready, Rounded, Spread, A
 use Rattle.recovery.proofs.Swaps.{once_self, once_on}
 use Rattle.recovery.proofs.Spreads.{is_up_at}
 
-module _ {S C : Type 0} (m : Meaning S C) where
+module _ {S C : Type 0} (m : MachineSpec S C) where
   -- in peace a server leads to the end
   peace_end : (i T : ℕ) (x v : World C) → Peace m i T x v → Leads v i T
   peace_end i T x v (leads_here l) = l
   peace_end i T x v (leads_on e u p is h l) = l
 
-module _ {S C : Type 0} (m : Meaning S C) (law : LawfulMachine m) (n : ℕ) (two : 2 ≤ n) (i : ℕ) (w : World C) (r : Reached m n w) (ready : Ready n i w) where
+module _ {S C : Type 0} (m : MachineSpec S C) (law : LawfulMachine m) (n : ℕ) (two : 2 ≤ n) (i : ℕ) (w : World C) (r : Reached m n w) (ready : Ready n i w) where
   pub rounding_start : (t : ℕ) → Leads w i t → Rounding m n i w 0 w
   rounding_start t l = record {
     up = λ k. refl;

@@ -3,11 +3,11 @@
 use Rattle.std.proofs.Common.{◌≡◌, ◌≢◌, ℕ, suc, ◌<◌, ◌≤◌, ◌⊎◌, inl, inr, Bool, true, false, Some, Ok, List, ◌++◌, length, refl, sym, ap, ◌∙◌, subst, arith, slice_get, true≢false}
 use Rattle.std.proofs.lemmas.Bool.Decides.{leb_tells}
 use Rattle.std.proofs.lemmas.Option.{same_Some}
-use Rattle.machine_model.specs.Meaning.{Meaning, LawfulMachine}
+use Rattle.machine_model.specs.MachineSpec.{MachineSpec, LawfulMachine}
 use Rattle.raft_model.specs.Logs.{last_term}
 use Rattle.raft_model.specs.Quorums.{index_at}
 use Rattle.raft_model.specs.Messages.{Message, Body, VoteRequest, to_others}
-use Rattle.raft_model.specs.Rafts.{Raft, RaftTurn, Leader, is_up, is_leader, stood, vote_request_to, beat_body, beat_message}
+use Rattle.raft_model.specs.Rafts.{Raft, RaftTurn, Leader, is_up, is_leader, election_started, vote_request_to, beat_body, beat_message}
 use Rattle.raft_model.specs.Steps.{Timeout, Beat}
 use Rattle.raft_model.specs.Worlds.{World, Event, Deliver, TimesOut, Beats, Leads, happens}
 use Rattle.raft_model.proofs.Cases.{same_ok}
@@ -27,7 +27,7 @@ use Rattle.raft_progress.proofs.Leaders.{leads_in}
 use Rattle.raft_progress.proofs.CalmRuns.{Inv, Member}
 use Rattle.raft_progress.proofs.Goes.{calm_sent, times, timed_inv, begins, one_go}
 use Rattle.recovery.specs.Runs.{up_there, is_up_in}
-use Rattle.recovery.specs.Inner.Spreads.{SameUp, Once, Swapped, Going, Ready, Rounded, Spread, Acted, it_beats, it_stands, CanAct}
+use Rattle.recovery.specs.Inner.Spreads.{SameUp, Once, Swapped, Going, Ready, Rounded, Spread, HasBeatOrTimedOut, it_beats, it_stands, CanBeatOrTimeOut}
 use Rattle.recovery.proofs.Swaps.{IsVote, turned_up, once_self, once_on, Top, top_on, stays, peaceful, Swap, swaps}
 
 -- who is up where is_up_in says so
@@ -38,11 +38,11 @@ pub is_up_at : {C : Type 0} (w : World C) (j : ℕ) (s : Raft C) → slice_get w
 is_up_at w j s there q = ap (λ z. up_there z) there ∙ q
 
 -- one calm part after another
-pub calm_more : {S C : Type 0} (m : Meaning S C) (Q : ℕ → Bool) (i since : ℕ) (x y z : World C) → Calm m Q i since x y → Calm m Q i since y z → Calm m Q i since x z
+pub calm_more : {S C : Type 0} (m : MachineSpec S C) (Q : ℕ → Bool) (i since : ℕ) (x y z : World C) → Calm m Q i since x y → Calm m Q i since y z → Calm m Q i since x z
 calm_more m Q i since x y z a calm_here = a
 calm_more m Q i since x y z a (calm_on {x = v} e w c is calm h) = calm_on e w (calm_more m Q i since x y v a c) is calm h
 
-module _ {S C : Type 0} (m : Meaning S C) (law : LawfulMachine m) (n : ℕ) (two : 2 ≤ n) (i : ℕ) (w : World C) (r : Reached m n w) (ready : Ready n i w) where
+module _ {S C : Type 0} (m : MachineSpec S C) (law : LawfulMachine m) (n : ℕ) (two : 2 ≤ n) (i : ℕ) (w : World C) (r : Reached m n w) (ready : Ready n i w) where
   abbrev pub TopAt : ℕ → World C → Type 0
   TopAt B x = Top m law n (is_up_in w) i ready.less ready.up (length w.sent) B x
 
@@ -119,14 +119,14 @@ module _ {S C : Type 0} (m : Meaning S C) (law : LawfulMachine m) (n : ℕ) (two
       }
 
   pub can_stand : (s : Raft C) → slice_get w.servers i ≡ Some s → is_leader s.mode ≡ false →
-      happens m w (TimesOut i) ≡ Ok (turned m n w i (record { server = stood n i s; sent = to_others i (vote_request_to i (stood n i s)) n }))
+      happens m w (TimesOut i) ≡ Ok (turned m n w i (record { server = election_started n i s; sent = to_others i (vote_request_to i (election_started n i s)) n }))
   can_stand s here not =
       let fits = ready.room s here not in
-      own_turn m n w i Timeout s (record { server = stood n i s; sent = to_others i (vote_request_to i (stood n i s)) n }) (reached_size m n w r) here (stands_now m n i s (up_is w i s here ready.up) not fits.0 fits.1)
+      own_turn m n w i Timeout s (record { server = election_started n i s; sent = to_others i (vote_request_to i (election_started n i s)) n }) (reached_size m n w r) here (stands_now m n i s (up_is w i s here ready.up) not fits.0 fits.1)
 
   pub timeout_opens : (s : Raft C) → slice_get w.servers i ≡ Some s → is_leader s.mode ≡ false → (y : World C) → happens m w (TimesOut i) ≡ Ok y → Opened y
   timeout_opens s here not y h =
-      let c : Raft C = stood n i s in
+      let c : Raft C = election_started n i s in
       let turn : RaftTurn C = record { server = c; sent = to_others i (vote_request_to i c) n } in
       let is : y ≡ turned m n w i turn = same_ok _ _ (sym h ∙ can_stand s here not) in
       let now : slice_get y.servers i ≡ Some c = ap (λ (z : World C). slice_get z.servers i) is ∙ turned_here m n w i turn s here in
@@ -447,11 +447,11 @@ module _ {S C : Type 0} (m : Meaning S C) (law : LawfulMachine m) (n : ℕ) (two
       }
 
   -- who led or not
-  pub opened : (es : List (Event C)) (t b : ℕ) (y : World C) → Acted m i w es t b y → Opened y
+  pub opened : (es : List (Event C)) (t b : ℕ) (y : World C) → HasBeatOrTimedOut m i w es t b y → Opened y
   opened es t b y (it_beats s here leads h) = let l = leads_in s.mode leads in beat_opens s here l.0 l.1 l.2 y h
   opened es t b y (it_stands s here not h) = timeout_opens s here not y h
 
-  pub may_act : CanAct m i w
+  pub may_act : CanBeatOrTimeOut m i w
   may_act =
       let s = get-some w.servers i (omega (arith, ready.less, reached_size m n w r)) in
       record {

@@ -3,11 +3,11 @@
 use Rattle.std.proofs.Common.{◌≡◌, ◌≢◌, ℕ, suc, ◌<◌, ◌≤◌, ◌⊎◌, inl, inr, Bool, true, false, ◌&&◌, ◌==◌, nat_lt, nat_le, Some, Ok, List, [], ◌∷◌, ◌++◌, length, refl, sym, ap, ◌∙◌, subst, arith, slice_get, slice_set, true≢false}
 use Rattle.std.proofs.lemmas.Bool.Decides.{eqb_tells}
 use Rattle.std.proofs.lemmas.Option.{same_Some}
-use Rattle.machine_model.specs.Meaning.{Meaning, LawfulMachine}
+use Rattle.machine_model.specs.MachineSpec.{MachineSpec, LawfulMachine}
 use Rattle.machine_model.specs.declared.entry.Entry.{Entry}
 use Rattle.raft_model.specs.Quorums.{is_quorum, marked}
 use Rattle.raft_model.specs.Messages.{Message, Body, VoteRequest, VoteReply, Append, AppendReply, Install, InstallReply}
-use Rattle.raft_model.specs.Rafts.{Raft, RaftTurn, Mode, Down, Follower, Candidate, Leader, is_up, is_leader, met, following, is_held, counted, advanced_in, hears_ok, hears_refusal}
+use Rattle.raft_model.specs.Rafts.{Raft, RaftTurn, Mode, Down, Follower, Candidate, Leader, is_up, is_leader, term_observed, following, is_held, counted, advanced_in, after_append_ok, after_append_refusal}
 use Rattle.raft_model.specs.Steps.{receives}
 use Rattle.raft_model.specs.Worlds.{World, Deliver, Leads, happens}
 use Rattle.raft_model.proofs.Cases.{bool_cases}
@@ -35,7 +35,7 @@ IsVote (AppendReply asked ok at) = ⊥
 IsVote (Install covered) = ⊥
 IsVote (InstallReply asked at) = ⊥
 
-module _ {S C : Type 0} (m : Meaning S C) (n : ℕ) where
+module _ {S C : Type 0} (m : MachineSpec S C) (n : ℕ) where
   -- a server's turn leaves it up
   pub turned_up : (x : World C) (j : ℕ) (turn : RaftTurn C) (s : Raft C) → slice_get x.servers j ≡ Some s → is_up s.mode ≡ true → is_up turn.server.mode ≡ true → SameUp x (turned m n x j turn)
   turned_up x j turn s here was now k = elim (eqb_tells k j) [
@@ -82,7 +82,7 @@ module _ {C : Type 0} where
   alike : (s t : Raft C) → t.log ≡ s.log → is_leader t.mode ≡ is_leader s.mode → Once s t
   alike s t log leads = inl (log, leads)
 
-module _ {S C : Type 0} (m : Meaning S C) (n i : ℕ) (r : Raft C) (k : ℕ) where
+module _ {S C : Type 0} (m : MachineSpec S C) (n i : ℕ) (r : Raft C) (k : ℕ) where
   counted_once : (mode : Mode) → r.mode ≡ mode → Once r (counted m.noop n r k mode)
   counted_once Down e = once_self r
   counted_once Follower e = once_self r
@@ -98,7 +98,7 @@ module _ {S C : Type 0} (m : Meaning S C) (n i : ℕ) (r : Raft C) (k : ℕ) whe
   advanced_once (Candidate votes) e = once_self r
   advanced_once (Leader next match) e = inl (refl, refl)
 
-  ok_once : (at : ℕ) (mode : Mode) → r.mode ≡ mode → Once r (hears_ok n i r k at mode)
+  ok_once : (at : ℕ) (mode : Mode) → r.mode ≡ mode → Once r (after_append_ok n i r k at mode)
   ok_once at Down e = once_self r
   ok_once at Follower e = once_self r
   ok_once at (Candidate votes) e = once_self r
@@ -107,7 +107,7 @@ module _ {S C : Type 0} (m : Meaning S C) (n i : ℕ) (r : Raft C) (k : ℕ) whe
     | inr b ↦ rw b (advanced_once r.mode refl)
   ]
 
-  refusal_once : (at : ℕ) (mode : Mode) → r.mode ≡ mode → Once r (hears_refusal n i r k at mode)
+  refusal_once : (at : ℕ) (mode : Mode) → r.mode ≡ mode → Once r (after_append_refusal n i r k at mode)
   refusal_once at Down e = once_self r
   refusal_once at Follower e = once_self r
   refusal_once at (Candidate votes) e = once_self r
@@ -124,7 +124,7 @@ module _ {S C : Type 0} (m : Meaning S C) (n i : ℕ) (r : Raft C) (k : ℕ) whe
   reply_once term (Install P) h = absurd h
   reply_once term (InstallReply asked at) h = elim (bool_cases (asked == r.term)) [ inl b ↦ rw b (ok_once at r.mode refl) | inr b ↦ rw b (once_self r) ]
 
-module _ {S C : Type 0} (m : Meaning S C) (law : LawfulMachine m) (n : ℕ) (Q : ℕ → Bool) (i : ℕ) (less_n : i < n) (member_i : Q i ≡ true) (since : ℕ) where
+module _ {S C : Type 0} (m : MachineSpec S C) (law : LawfulMachine m) (n : ℕ) (Q : ℕ → Bool) (i : ℕ) (less_n : i < n) (member_i : Q i ≡ true) (since : ℕ) where
   -- server i stands or leads, in the greatest term of a member
   pub record Top (B : ℕ) (x : World C) : Type 0 where
     pub inv : Inv m law n Q i less_n member_i since B (suc B) x
@@ -202,7 +202,7 @@ module _ {S C : Type 0} (m : Meaning S C) (law : LawfulMachine m) (n : ℕ) (Q :
     carries = let r = t.inv in let g = r.given place asks new at member_i in elim g.says [ inl z ↦ z.1 | inr z ↦ absurd (z.0 refl) ]
 
     turn : RaftTurn C
-    turn = receives m.noop n k (met B s) i B body
+    turn = receives m.noop n k (term_observed B s) i B body
 
     hd : Heeds k i s B body turn
     unfolding turn
@@ -213,7 +213,7 @@ module _ {S C : Type 0} (m : Meaning S C) (law : LawfulMachine m) (n : ℕ) (Q :
     unfolding turn
     says = elim hd.says [
       | inr one ↦ one
-      | inl none ↦ absurd (not_silent m n k i (met B s) B body t.inv.me.log carries (λ l. elim speaks [
+      | inl none ↦ absurd (not_silent m n k i (term_observed B s) B body t.inv.me.log carries (λ l. elim speaks [
         | inl v ↦ v
         | inr leads ↦ let r = t.inv in absurd (true≢false (sym l ∙ met_mode B s member.low (λ same. alone m n x r.reached i k leads.server s leads.next leads.match leads.here leads.mode here other (same ∙ sym leads.term))))
       ]) none)
@@ -240,7 +240,7 @@ module _ {S C : Type 0} (m : Meaning S C) (law : LawfulMachine m) (n : ℕ) (Q :
     at_reply = ap (λ (l : List (Message C)). slice_get (x.sent ++ l) (length x.sent)) says.1 ∙ get-last x.sent reply
 
     turn2 : RaftTurn C
-    turn2 = receives m.noop n i (met reply.term n1.inv.me) k reply.term reply.body
+    turn2 = receives m.noop n i (term_observed reply.term n1.inv.me) k reply.term reply.body
 
     x2 : World C
     x2 = turned m n x1 i turn2
@@ -274,7 +274,7 @@ module _ {S C : Type 0} (m : Meaning S C) (law : LawfulMachine m) (n : ℕ) (Q :
         let r0 = t.inv in
         let was : a ≡ n1.inv.me = same_Some a r0.me (sym there ∙ r0.here) ∙ sym same_me in
         let now : turn2.server ≡ b = let r = n1.inv in same_Some turn2.server b (sym (turned_here m n x1 i turn2 r.me r.here) ∙ then) in
-        let met_it : met reply.term n1.inv.me ≡ n1.inv.me = met_same reply.term n1.inv.me (ap (λ (z : Raft C). z.term) same_me ∙ (t.term ∙ sym its_term)) in
+        let met_it : term_observed reply.term n1.inv.me ≡ n1.inv.me = met_same reply.term n1.inv.me (ap (λ (z : Raft C). z.term) same_me ∙ (t.term ∙ sym its_term)) in
         let o : Once n1.inv.me (receives m.noop n i n1.inv.me k reply.term reply.body).server = reply_once m n i n1.inv.me k reply.term reply.body says.2 in
         subst (λ z. Once z b) (sym was) (subst (λ z. Once n1.inv.me z) now (subst (λ z. Once n1.inv.me (receives m.noop n i z k reply.term reply.body).server) (sym met_it) o))
 

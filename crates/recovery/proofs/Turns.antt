@@ -1,7 +1,7 @@
 -- A round of server i, place by place.
 use Rattle.std.proofs.Common.{◌≡◌, ℕ, suc, ◌<◌, ◌≤◌, inl, inr, Some, List, [], ◌∷◌, ◌++◌, length, refl, sym, ap, ◌∙◌, subst, arith, slice_get, append_assoc, true≢false}
 use Rattle.std.proofs.lemmas.Option.{same_Some}
-use Rattle.machine_model.specs.Meaning.{Meaning, LawfulMachine}
+use Rattle.machine_model.specs.MachineSpec.{MachineSpec, LawfulMachine}
 use Rattle.raft_model.specs.Messages.{Message}
 use Rattle.raft_model.specs.Rafts.{Raft, is_leader}
 use Rattle.raft_model.specs.Worlds.{World, Event, Deliver}
@@ -9,21 +9,21 @@ use Rattle.raft_safety.proofs.Places.{get-some, get-within}
 use Rattle.raft_progress.proofs.Moves.{Reached}
 use Rattle.raft_progress.proofs.Goes.{calm_sent}
 use Rattle.recovery.specs.Runs.{is_up_in}
-use Rattle.recovery.specs.Inner.Spreads.{Ready, Way, Acted, it_beats, it_stands, CanSwap, SwapDone, not_up, both, ActDone, SpreadSoFar, RoundTakes, SpreadDone}
+use Rattle.recovery.specs.Inner.Spreads.{Ready, Way, HasBeatOrTimedOut, it_beats, it_stands, CanSwap, SwapDone, not_up, both, ActDone, SpreadSoFar, RoundTakes, SpreadDone}
 use Rattle.recovery.proofs.Spreads.{Opened, opened, going_start, swap_at, going_swap, going_past, spread}
 use Rattle.recovery.proofs.Ways.{no_way, way_delivery, way_timeout, way_beat}
 
-module _ {S C : Type 0} (m : Meaning S C) (i : ℕ) (w : World C) where
+module _ {S C : Type 0} (m : MachineSpec S C) (i : ℕ) (w : World C) where
   -- the events of the server's own turn
-  pub act_way : (es : List (Event C)) (t b : ℕ) (y : World C) → Acted m i w es t b y → Way m i w es t b y
+  pub act_way : (es : List (Event C)) (t b : ℕ) (y : World C) → HasBeatOrTimedOut m i w es t b y → Way m i w es t b y
   act_way es t b y (it_beats s here leads h) = way_beat m i w [] 0 0 w y (no_way m i w) h
   act_way es t b y (it_stands s here not h) = way_timeout m i w [] 0 0 w y (no_way m i w) h
 
-  act_kind : (es : List (Event C)) (t b : ℕ) (y : World C) → Acted m i w es t b y → RoundTakes i w t b
+  act_kind : (es : List (Event C)) (t b : ℕ) (y : World C) → HasBeatOrTimedOut m i w es t b y → RoundTakes i w t b
   act_kind es t b y (it_beats s here leads h) a at = inl (ap (λ (z : Raft C). is_leader z.mode) (same_Some a s (sym at ∙ here)) ∙ leads, refl, refl)
   act_kind es t b y (it_stands s here not h) a at = inr (ap (λ (z : Raft C). is_leader z.mode) (same_Some a s (sym at ∙ here)) ∙ not, refl, refl)
 
-module _ {S C : Type 0} (m : Meaning S C) (law : LawfulMachine m) (n : ℕ) (two : 2 ≤ n) (i : ℕ) (w : World C) (r : Reached m n w) (ready : Ready n i w) where
+module _ {S C : Type 0} (m : MachineSpec S C) (law : LawfulMachine m) (n : ℕ) (two : 2 ≤ n) (i : ℕ) (w : World C) (r : Reached m n w) (ready : Ready n i w) where
   pub so_far_start : (es : List (Event C)) (y : World C) → ActDone m i es w y → SpreadSoFar m i (length w.sent) (length y.sent) es w y
   so_far_start es y a = record {
     opened = y;

@@ -1,13 +1,13 @@
 -- Recoveries, one after the other, with their events.
 use Rattle.std.proofs.Common.{◌≡◌, ℕ, suc, ◌+◌, ◌≤◌, Ok, List, [], ◌∷◌, ◌++◌, length, refl, ap, subst, arith, append_assoc}
-use Rattle.machine_model.specs.Meaning.{Meaning}
+use Rattle.machine_model.specs.MachineSpec.{MachineSpec}
 use Rattle.raft_model.specs.Worlds.{World, Event, Deliver, TimesOut, Beats, happens}
 use Rattle.raft_progress.specs.Recovery.{Recovery, no_event, a_delivery, a_timeout, a_beat}
 use Rattle.raft_progress.proofs.Moves.{recovery_sent}
 use Rattle.recovery.specs.Runs.{events_of}
 use Rattle.recovery.specs.Inner.Spreads.{Way}
 
-module _ {S C : Type 0} (m : Meaning S C) (i : ℕ) where
+module _ {S C : Type 0} (m : MachineSpec S C) (i : ℕ) where
   pub no_way : (w : World C) → Way m i w [] 0 0 w
   unfolding events_of
   no_way w = record { recovery = no_event; events = refl }

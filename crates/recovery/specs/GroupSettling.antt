@@ -6,7 +6,7 @@ use Rattle.group_model.specs.Inputs as inputs
 use Rattle.group_model.specs.Worlds.{World, Event, Deliver, AtServer, happens, crash_of, raft_of}
 use Rattle.group_progress.specs.GroupRecovery.{GroupRecovery, no_event, a_delivery, a_timeout, a_beat, GroupCanSettle}
 use Rattle.world.specs.GroupView.{GroupView, GroupRunsTo, nodes_of}
-use Rattle.world.specs.GroupSteps.{MayWantAt}
+use Rattle.world.specs.GroupSteps.{OutOfMemoryMayEndAt}
 use Rattle.recovery.specs.declared.unsettled.Unsettled.{Unsettled}
 use Rattle.recovery.specs.declared.unsettled.Unsettled.TheVariants.{NoQuorum, Exhausted, NoMemory, Crashed}
 use Rattle.recovery.specs.Runs.{is_up_in}
@@ -54,7 +54,7 @@ pub record GroupFell (who : ℕ) (taken : List Event) (w v : World) : Type 0 whe
   pub began : GroupBegan calm w before
   pub event : Event
   pub actor : crash_of before event ≡ Some (AtServer who inputs.Crash)
-  pub lacking : MayWantAt before event
+  pub lacking : OutOfMemoryMayEndAt before event
   pub crash : happens before (AtServer who inputs.Crash) ≡ Ok v
   pub taken_are : taken ≡ calm ++ AtServer who inputs.Crash ∷ []
 

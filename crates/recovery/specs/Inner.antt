@@ -3,4 +3,4 @@ pub mod Spreads
 pub mod Drives
 pub mod Goings
 pub mod Kinds
-pub mod Wakings
+pub mod DownServers

@@ -1,6 +1,6 @@
 -- Who is down restarts, and then the group settles; and what keeps it from that.
 use Rattle.std.specs.Prelude.{◌≡◌, ℕ, zero, suc, ◌⊎◌, if◌then◌else◌, List, [], ◌∷◌, ◌++◌, length, map}
-use Rattle.machine_model.specs.Meaning.{Meaning}
+use Rattle.machine_model.specs.MachineSpec.{MachineSpec}
 use Rattle.raft_model.specs.Worlds.{World, Event, Restarts}
 use Rattle.raft_progress.specs.Recovery.{HasRoom, AfterRestarts, no_restart, a_restart, everybody, CanRecover}
 use Rattle.world.specs.WorldView.{WorldView}
@@ -15,11 +15,11 @@ downs zero w = []
 downs (suc k) w = downs k w ++ (if is_up_in w k then [] else k ∷ [])
 
 -- the events of some restarts, in order
-unfoldable pub restarts_of : {S C : Type 0} (m : Meaning S C) (w : World C) (c : ℕ) (v : World C) → AfterRestarts m w c v → List (Event C)
+unfoldable pub restarts_of : {S C : Type 0} (m : MachineSpec S C) (w : World C) (c : ℕ) (v : World C) → AfterRestarts m w c v → List (Event C)
 restarts_of m w c v no_restart = []
 restarts_of m w c v (a_restart {c = c1} {x = x} i y r h) = restarts_of m w c1 x r ++ Restarts i ∷ []
 
-module _ {S C : Type 0} (m : Meaning S C) where
+module _ {S C : Type 0} (m : MachineSpec S C) where
   -- By these events those of n servers that were down restarted, each once and in order, but for the
   -- last of them, which are left.
   pub record Restarted (n : ℕ) (left : List ℕ) (taken : List (Event C)) (w v : World C) : Type 0 where

@@ -1,17 +1,17 @@
 -- What settles a group, and what keeps it from that.
 use Rattle.std.specs.Prelude.{◌≡◌, ℕ, List, [], ◌∷◌, ◌++◌, Some, Ok, length, slice_get}
-use Rattle.machine_model.specs.Meaning.{Meaning}
+use Rattle.machine_model.specs.MachineSpec.{MachineSpec}
 use Rattle.raft_model.specs.Rafts.{Raft}
 use Rattle.raft_model.specs.Quorums.{Quorum}
 use Rattle.raft_model.specs.Worlds.{World, Event, Crashes, happens, acting_server}
 use Rattle.raft_progress.specs.Recovery.{HasRoom}
 use Rattle.world.specs.WorldView.{WorldView, RunsTo}
-use Rattle.world.specs.Steps.{MayWantFor}
+use Rattle.world.specs.Steps.{OutOfMemoryMayEndFor}
 use Rattle.recovery.specs.declared.unsettled.Unsettled.{Unsettled}
 use Rattle.recovery.specs.declared.unsettled.Unsettled.TheVariants.{NoQuorum, Exhausted, NoMemory, Crashed}
 use Rattle.recovery.specs.Runs.{is_up_in, Settles, Began}
 
-module _ {S C : Type 0} (m : Meaning S C) where
+module _ {S C : Type 0} (m : MachineSpec S C) where
   -- By these events, which its trace has, each run of the old value goes on to one of the new; R tells
   -- of its last world before and after.
   pub record GoesOn (old new : WorldView S C) (taken : List (Event C)) (R : World C → World C → Type 0) : Type 0 where
@@ -31,7 +31,7 @@ module _ {S C : Type 0} (m : Meaning S C) where
     pub began : Began m calm w before
     pub event : Event C
     pub actor : acting_server m before event ≡ Some who
-    pub lacking : (s : Raft C) → slice_get before.servers who ≡ Some s → MayWantFor before event s
+    pub lacking : (s : Raft C) → slice_get before.servers who ≡ Some s → OutOfMemoryMayEndFor before event s
     pub crash : happens m before (Crashes who) ≡ Ok v
     pub taken_are : taken ≡ calm ++ Crashes who ∷ []
 

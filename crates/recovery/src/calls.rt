@@ -20,8 +20,8 @@ use world::{RaftWorld, World};
 /// one that is up has no room for two more terms or entries; nothing happened then. With
 /// `NoMemory` or `Crashed` memory was wanting on the way; the events before that happened.
 pub fn settle<M: Machine>(world: &mut RaftWorld<M>) -> Result<ServerId, Unsettled>
-    ensures ok { IfOk result (λ who. IsSettled M.meaning world.old world.new who) }
-    ensures err { IfErr result (λ why. WhyUnsettled M.meaning world.old world.new why) }
+    ensures ok { IfOk result (λ who. IsSettled M.spec world.old world.new who) }
+    ensures err { IfErr result (λ why. WhyUnsettled M.spec world.old world.new why) }
 {
     settle_driven(&(), world)
 }

@@ -3,7 +3,7 @@ ghost use Rattle.std.specs.Prelude.{◌≡◌, ◌≤◌, ℕ, OnOk, IfErr, IfSo
 ghost use Rattle.rows.specs.GroupSizes.{IsGroup};
 ghost use Rattle.recovery.specs.Inner.Drives.{Drive, LawfulDrive, HasRun, EverOf, EverAt, Known, KnownOf, StandsThere, NoneThere, CanGo, HasGone, WentOf, NotTaken};
 ghost use Rattle.recovery.specs.Inner.Goings.{GoesTo};
-ghost use Rattle.recovery.specs.Inner.Wakings.{Restarting, IsDown, IsBack, StaysAsleep};
+ghost use Rattle.recovery.specs.Inner.DownServers.{Restarting, IsDown, IsBack, IsLeftDown};
 
 use crate::calm_event::CalmEvent;
 use crate::unsettled::Unsettled;
@@ -28,7 +28,7 @@ pub(crate) trait Driven {
     /// It has a run, as its type keeps.
     fn has_run(&self)
         ensures run { HasRun drive self.now }
-        ensures law { LawfulDrive Self.Of.meaning drive }
+        ensures law { LawfulDrive Self.Of.spec drive }
         ensures group { IsGroup (drive.size self.now) };
 
     /// How many servers it has.
@@ -42,7 +42,7 @@ pub(crate) trait Driven {
 
     /// A server's part of the log; none where it has fewer servers.
     fn log_of(&self, server: ServerId) -> Option<&Raft<Self::Of>>
-        ensures some { IfSome result (λ r. StandsThere drive Self.Of.meaning server r.now self.now) }
+        ensures some { IfSome result (λ r. StandsThere drive Self.Of.spec server r.now self.now) }
         ensures none { IfNone result (NoneThere drive server self.now) };
 
     /// The server that is to receive the message at a place, where that is one of the log.
@@ -56,7 +56,7 @@ pub(crate) trait Driven {
         event: CalmEvent,
         server: ServerId,
     ) -> Result<(), Unsettled>
-        requires { KnownOf drive self.old (λ w. CanGo drive Self.Of.meaning event server w) }
+        requires { KnownOf drive self.old (λ w. CanGo drive Self.Of.spec event server w) }
         ensures ok { OnOk result (WentOf drive self.old self.new (λ taken w v.
             HasGone drive event taken w v)) }
         ensures err { IfErr result (λ why. NotTaken drive self.old self.new why) };
@@ -65,6 +65,6 @@ pub(crate) trait Driven {
     fn restart(&mut self, with: &Self::With, server: ServerId) -> Result<(), Unsettled>
         requires { Known drive self.old (λ w. IsDown server w) }
         ensures ok { OnOk result (WentOf drive self.old self.new (λ taken w v.
-            IsBack Self.Of.meaning drive restarting server taken w v)) }
-        ensures err { IfErr result (λ why. StaysAsleep drive server self.old self.new why) };
+            IsBack Self.Of.spec drive restarting server taken w v)) }
+        ensures err { IfErr result (λ why. IsLeftDown drive server self.old self.new why) };
 }

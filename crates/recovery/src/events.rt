@@ -1,6 +1,6 @@
 //! The turn of one server, and the delivery of a message and its answer.
 ghost use Rattle.std.specs.Prelude.{OnOk, IfErr};
-ghost use Rattle.recovery.specs.Inner.Spreads.{CanSwap, CanExchange, SwapDone, CanAct, ActDone};
+ghost use Rattle.recovery.specs.Inner.Spreads.{CanSwap, CanExchange, SwapDone, CanBeatOrTimeOut, ActDone};
 ghost use Rattle.recovery.specs.Inner.Drives.{Known, KnownAt, Went, WentAt, SwapStops, Stops};
 
 use crate::calm_event::CalmEvent;
@@ -10,11 +10,15 @@ use crate::unsettled::Unsettled;
 use rows::ServerId;
 
 /// The server beats, if it leads; else it stands.
-pub(crate) fn act<D: Driven>(with: &D::With, world: &mut D, who: ServerId) -> Result<(), Unsettled>
-    requires { Known D.drive world.old (λ w. CanAct D.Of.meaning who w) }
+pub(crate) fn beat_or_time_out<D: Driven>(
+    with: &D::With,
+    world: &mut D,
+    who: ServerId,
+) -> Result<(), Unsettled>
+    requires { Known D.drive world.old (λ w. CanBeatOrTimeOut D.Of.spec who w) }
     ensures ok { OnOk result (Went D.drive world.old world.new (λ taken w v.
-        ActDone D.Of.meaning who taken w v)) }
-    ensures err { IfErr result (λ why. Stops D.drive D.Of.meaning who world.old world.new why) }
+        ActDone D.Of.spec who taken w v)) }
+    ensures err { IfErr result (λ why. Stops D.drive D.Of.spec who world.old world.new why) }
 {
     world.has_run();
     if leads(world, who) {
@@ -32,9 +36,9 @@ pub(crate) fn exchange<D: Driven>(
     place: usize,
     server: ServerId,
 ) -> Result<(), Unsettled>
-    requires { KnownAt D.drive world.old place (λ p w. CanExchange D.Of.meaning who p server w) }
+    requires { KnownAt D.drive world.old place (λ p w. CanExchange D.Of.spec who p server w) }
     ensures ok { OnOk result (WentAt D.drive place world.old world.new (λ p taken w v.
-        SwapDone D.Of.meaning p w taken v)) }
+        SwapDone D.Of.spec p w taken v)) }
     ensures err { IfErr result (λ why. SwapStops D.drive place world.old world.new why) }
 {
     world.has_run();
@@ -52,9 +56,9 @@ pub(crate) fn swap<D: Driven>(
     who: ServerId,
     place: usize,
 ) -> Result<(), Unsettled>
-    requires { KnownAt D.drive world.old place (λ p w. CanSwap D.Of.meaning who p w) }
+    requires { KnownAt D.drive world.old place (λ p w. CanSwap D.Of.spec who p w) }
     ensures ok { OnOk result (WentAt D.drive place world.old world.new (λ p taken w v.
-        SwapDone D.Of.meaning p w taken v)) }
+        SwapDone D.Of.spec p w taken v)) }
     ensures err { IfErr result (λ why. SwapStops D.drive place world.old world.new why) }
 {
     world.has_run();

@@ -31,7 +31,7 @@ impl Driven for World {
     type With = Global;
 
     ghost use Rattle.recovery.specs.Inner.Kinds.{group_drive};
-    ghost use Rattle.recovery.specs.Inner.Wakings.{group_restarting};
+    ghost use Rattle.recovery.specs.Inner.DownServers.{group_restarting};
 
     ghost drive = { group_drive };
 
@@ -39,7 +39,7 @@ impl Driven for World {
 
     fn has_run(&self) {
         self.one_list();
-        self.group_size();
+        self.size_is_3_or_5();
         let _ = self.clients();
     }
 

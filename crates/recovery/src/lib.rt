@@ -5,6 +5,7 @@
 mod calls;
 mod calm_event;
 mod choosing;
+mod down_servers;
 mod driven;
 mod events;
 mod group_driven;
@@ -16,7 +17,6 @@ mod settling;
 #[cfg(test)]
 mod tests;
 mod unsettled;
-mod waking;
 
 pub use calls::{settle, settle_group};
 pub use restarts::{settle_all, settle_all_of_group};

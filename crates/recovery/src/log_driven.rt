@@ -29,15 +29,15 @@ impl<M: Machine> Driven for RaftWorld<M> {
     type With = ();
 
     ghost use Rattle.recovery.specs.Inner.Kinds.{log_drive};
-    ghost use Rattle.recovery.specs.Inner.Wakings.{log_restarting};
+    ghost use Rattle.recovery.specs.Inner.DownServers.{log_restarting};
 
-    ghost drive = { log_drive M.meaning };
+    ghost drive = { log_drive M.spec };
 
-    ghost restarting = { log_restarting M.meaning };
+    ghost restarting = { log_restarting M.spec };
 
     fn has_run(&self) {
         self.one_leader();
-        self.group_size();
+        self.size_is_3_or_5();
     }
 
     fn members(&self) -> usize {

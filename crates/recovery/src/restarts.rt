@@ -4,9 +4,9 @@ ghost use Rattle.recovery.specs.Restarting.{AreSettled, WhyAllUnsettled};
 ghost use Rattle.recovery.specs.GroupRestarting.{AreGroupSettled, WhyGroupAllUnsettled};
 
 use crate::calls::{settle, settle_group};
+use crate::down_servers::restart_all;
 use crate::driven::Driven;
 use crate::unsettled::Unsettled;
-use crate::waking::wake_all;
 use machine::Machine;
 use rows::ServerId;
 use std::alloc::Global;
@@ -21,14 +21,14 @@ use world::{RaftWorld, World};
 /// a restart, whose server stays down, or later. The events before that happened. It is never
 /// refused with `NoQuorum`.
 pub fn settle_all<M: Machine>(world: &mut RaftWorld<M>) -> Result<ServerId, Unsettled>
-    ensures ok { IfOk result (λ who. AreSettled M.meaning world.old world.new who) }
-    ensures err { IfErr result (λ why. WhyAllUnsettled M.meaning world.old world.new why) }
+    ensures ok { IfOk result (λ who. AreSettled M.spec world.old world.new who) }
+    ensures err { IfErr result (λ why. WhyAllUnsettled M.spec world.old world.new why) }
 {
     world.has_run();
     if !world.has_room() {
         return Err(Unsettled::Exhausted);
     }
-    match wake_all(&(), world) {
+    match restart_all(&(), world) {
         Ok(()) => settle(world),
         Err(why) => Err(why),
     }
@@ -49,7 +49,7 @@ pub fn settle_all_of_group(alloc: Global, world: &mut World) -> Result<ServerId,
     if !world.has_room() {
         return Err(Unsettled::Exhausted);
     }
-    match wake_all(&alloc, world) {
+    match restart_all(&alloc, world) {
         Ok(()) => settle_group(alloc, world),
         Err(why) => Err(why),
     }

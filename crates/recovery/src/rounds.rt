@@ -1,11 +1,11 @@
 //! Rounds, by which one server comes to lead and all others to follow it.
 ghost use Rattle.std.specs.Prelude.{◌≡◌, ◌<◌, ◌⊎◌, OnOk, IfOk, IfErr};
 ghost use Rattle.recovery.specs.Runs.{Settles};
-ghost use Rattle.recovery.specs.Inner.Spreads.{Ready, Risen, Chosen, CanHear, SpreadDone, LedDone, Leading, AppliedDone, seat};
+ghost use Rattle.recovery.specs.Inner.Spreads.{Ready, Risen, Chosen, CanObserveNewerTerm, SpreadDone, LedDone, Leading, AppliedDone, seat};
 ghost use Rattle.recovery.specs.Inner.Drives.{Known, Went, Stops};
 
 use crate::driven::Driven;
-use crate::events::{act, exchange, swap};
+use crate::events::{beat_or_time_out, exchange, swap};
 use crate::reading::{highest, is_applied, is_behind, last_of, leads};
 use crate::unsettled::Unsettled;
 use rows::ServerId;
@@ -15,12 +15,12 @@ use rows::ServerId;
 fn spread<D: Driven>(with: &D::With, world: &mut D, who: ServerId) -> Result<(), Unsettled>
     requires { Known D.drive world.old (λ w. Ready (D.drive.size world.old) who w) }
     ensures ok { OnOk result (Went D.drive world.old world.new (λ taken w v.
-        SpreadDone D.Of.meaning (D.drive.size world.old) who taken w v)) }
-    ensures err { IfErr result (λ why. Stops D.drive D.Of.meaning who world.old world.new why) }
+        SpreadDone D.Of.spec (D.drive.size world.old) who taken w v)) }
+    ensures err { IfErr result (λ why. Stops D.drive D.Of.spec who world.old world.new why) }
 {
     world.has_run();
     let first = world.sent_count();
-    match act(with, world, who) {
+    match beat_or_time_out(with, world, who) {
         Ok(()) => {}
         Err(why) => return Err(why),
     }
@@ -47,20 +47,21 @@ fn seat(who: ServerId, server: ServerId) -> usize
 }
 
 /// The server beats or stands, and hears of the term of `ahead`, which is ahead of it.
-fn hear<D: Driven>(
+fn observe_newer_term<D: Driven>(
     with: &D::With,
     world: &mut D,
     who: ServerId,
     ahead: ServerId,
 ) -> Result<(), Unsettled>
-    requires { Known D.drive world.old (λ w. CanHear (D.drive.size world.old) who ahead w) }
+    requires { Known D.drive world.old (λ w. CanObserveNewerTerm
+        (D.drive.size world.old) who ahead w) }
     ensures ok { OnOk result (Went D.drive world.old world.new (λ taken w v.
-        Risen D.Of.meaning (D.drive.size world.old) who w taken v)) }
-    ensures err { IfErr result (λ why. Stops D.drive D.Of.meaning who world.old world.new why) }
+        Risen D.Of.spec (D.drive.size world.old) who w taken v)) }
+    ensures err { IfErr result (λ why. Stops D.drive D.Of.spec who world.old world.new why) }
 {
     world.has_run();
     let first = world.sent_count();
-    match act(with, world, who) {
+    match beat_or_time_out(with, world, who) {
         Ok(()) => {}
         Err(why) => return Err(why),
     }
@@ -76,13 +77,13 @@ fn hear<D: Driven>(
 fn rise<D: Driven>(with: &D::With, world: &mut D, who: ServerId) -> Result<(), Unsettled>
     requires { Known D.drive world.old (λ w. Chosen (D.drive.size world.old) who w) }
     ensures ok { OnOk result (Went D.drive world.old world.new (λ taken w v.
-        Risen D.Of.meaning (D.drive.size world.old) who w taken v)) }
-    ensures err { IfErr result (λ why. Stops D.drive D.Of.meaning who world.old world.new why) }
+        Risen D.Of.spec (D.drive.size world.old) who w taken v)) }
+    ensures err { IfErr result (λ why. Stops D.drive D.Of.spec who world.old world.new why) }
 {
     world.has_run();
     let ahead = highest(world, who);
     if is_behind(world, who, ahead) {
-        hear(with, world, who, ahead)
+        observe_newer_term(with, world, who, ahead)
     } else {
         Ok(())
     }
@@ -92,8 +93,8 @@ fn rise<D: Driven>(with: &D::With, world: &mut D, who: ServerId) -> Result<(), U
 fn lead<D: Driven>(with: &D::With, world: &mut D, who: ServerId) -> Result<(), Unsettled>
     requires { Known D.drive world.old (λ w. Ready (D.drive.size world.old) who w) }
     ensures ok { OnOk result (Went D.drive world.old world.new (λ taken w v.
-        LedDone D.Of.meaning (D.drive.size world.old) who taken w v)) }
-    ensures err { IfErr result (λ why. Stops D.drive D.Of.meaning who world.old world.new why) }
+        LedDone D.Of.spec (D.drive.size world.old) who taken w v)) }
+    ensures err { IfErr result (λ why. Stops D.drive D.Of.spec who world.old world.new why) }
 {
     world.has_run();
     if leads(world, who) {
@@ -108,8 +109,8 @@ fn lead<D: Driven>(with: &D::With, world: &mut D, who: ServerId) -> Result<(), U
 fn confirm<D: Driven>(with: &D::With, world: &mut D, who: ServerId) -> Result<(), Unsettled>
     requires { Known D.drive world.old (λ w. Leading (D.drive.size world.old) who w) }
     ensures ok { OnOk result (Went D.drive world.old world.new (λ taken w v.
-        AppliedDone D.Of.meaning who taken w v)) }
-    ensures err { IfErr result (λ why. Stops D.drive D.Of.meaning who world.old world.new why) }
+        AppliedDone D.Of.spec who taken w v)) }
+    ensures err { IfErr result (λ why. Stops D.drive D.Of.spec who world.old world.new why) }
 {
     world.has_run();
     let enough = 2 * last_of(world, who) + 2;
@@ -133,8 +134,8 @@ pub(crate) fn settle_at<D: Driven>(
 ) -> Result<(), Unsettled>
     requires { Known D.drive world.old (λ w. Chosen (D.drive.size world.old) who w) }
     ensures ok { OnOk result (Went D.drive world.old world.new (λ taken w v.
-        Settles D.Of.meaning (D.drive.size world.old) who taken w v)) }
-    ensures err { IfErr result (λ why. Stops D.drive D.Of.meaning who world.old world.new why) }
+        Settles D.Of.spec (D.drive.size world.old) who taken w v)) }
+    ensures err { IfErr result (λ why. Stops D.drive D.Of.spec who world.old world.new why) }
 {
     world.has_run();
     match rise(with, world, who) {

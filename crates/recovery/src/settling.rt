@@ -12,9 +12,9 @@ use rows::ServerId;
 /// room.
 pub(crate) fn settle_driven<D: Driven>(with: &D::With, world: &mut D) -> Result<ServerId, Unsettled>
     ensures ok { IfOk result (λ who.
-        DriveSettled D.drive D.Of.meaning world.old world.new who) }
+        DriveSettled D.drive D.Of.spec world.old world.new who) }
     ensures err { IfErr result (λ why.
-        WhyDriveUnsettled D.drive D.Of.meaning world.old world.new why) }
+        WhyDriveUnsettled D.drive D.Of.spec world.old world.new why) }
 {
     world.has_run();
     if !has_quorum(world) {

@@ -2,11 +2,11 @@
 use Rattle.rows.specs.declared.command.Command.{Command}
 use Rattle.rows.specs.declared.command.Command.TheVariants as commands
 use Rattle.rows.specs.declared.request.OperatorRequest.{OperatorRequest}
-use Rattle.rows.specs.declared.request.OperatorRequest.TheVariants.{PutJob, StopJob, PutEval, DrainNode}
+use Rattle.rows.specs.declared.request.OperatorRequest.TheVariants.{JobPut, JobStop, EvalPut, Drain}
 
 -- the command that is proposed for a request
 abbrev pub command_of : OperatorRequest → Command
-command_of (PutJob job) = commands.JobPut job
-command_of (StopJob name) = commands.JobStop name
-command_of (PutEval name) = commands.EvalPut name
-command_of (DrainNode node force) = commands.Drain node force
+command_of (JobPut job) = commands.JobPut job
+command_of (JobStop name) = commands.JobStop name
+command_of (EvalPut name) = commands.EvalPut name
+command_of (Drain node force) = commands.Drain node force

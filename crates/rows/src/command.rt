@@ -178,7 +178,7 @@ impl StatusChange {
     }
 
     /// The index that is set: 0 unless blocked.
-    pub fn snapshot(self) -> Index
+    pub fn snapshot_index(self) -> Index
         ensures { result ≡ snapshot_of self }
     {
         match self {

@@ -12,13 +12,13 @@ use std::alloc::Global;
 #[derive(Drop)]
 pub enum OperatorRequest {
     /// The job is put, in place of the one of its name.
-    PutJob(JobSpec),
+    JobPut(JobSpec),
     /// Nothing of the job is to run any more.
-    StopJob(JobName),
+    JobStop(JobName),
     /// The job is looked at once more.
-    PutEval(JobName),
+    EvalPut(JobName),
     /// The node takes no more, and what runs there moves: all at once where the second says so.
-    DrainNode(NodeId, bool),
+    Drain(NodeId, bool),
 }
 
 impl OperatorRequest {
@@ -27,10 +27,10 @@ impl OperatorRequest {
         ensures { IfOk result (λ request. request ≡ self.now) }
     {
         Ok(match self {
-            OperatorRequest::PutJob(job) => OperatorRequest::PutJob(job.try_clone(alloc)?),
-            OperatorRequest::StopJob(name) => OperatorRequest::StopJob(*name),
-            OperatorRequest::PutEval(name) => OperatorRequest::PutEval(*name),
-            OperatorRequest::DrainNode(node, force) => OperatorRequest::DrainNode(*node, *force),
+            OperatorRequest::JobPut(job) => OperatorRequest::JobPut(job.try_clone(alloc)?),
+            OperatorRequest::JobStop(name) => OperatorRequest::JobStop(*name),
+            OperatorRequest::EvalPut(name) => OperatorRequest::EvalPut(*name),
+            OperatorRequest::Drain(node, force) => OperatorRequest::Drain(*node, *force),
         })
     }
 
@@ -39,10 +39,10 @@ impl OperatorRequest {
         ensures { result ≡ command_of self }
     {
         match self {
-            OperatorRequest::PutJob(job) => Command::JobPut(job),
-            OperatorRequest::StopJob(name) => Command::JobStop(name),
-            OperatorRequest::PutEval(name) => Command::EvalPut(name),
-            OperatorRequest::DrainNode(node, force) => Command::Drain(node, force),
+            OperatorRequest::JobPut(job) => Command::JobPut(job),
+            OperatorRequest::JobStop(name) => Command::JobStop(name),
+            OperatorRequest::EvalPut(name) => Command::EvalPut(name),
+            OperatorRequest::Drain(node, force) => Command::Drain(node, force),
         }
     }
 }

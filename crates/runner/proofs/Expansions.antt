@@ -4,9 +4,9 @@ use Rattle.std.specs.Prelude.{IsUtf8}
 use Rattle.std.specs.List.{All, AllByRecursion}
 use Rattle.std.proofs.lemmas.List.Elements.{All-from_recursion}
 use Rattle.rows.specs.declared.refusal.Refusal.{Refusal}
-use Rattle.scenario_file.specs.Complaints.{IsStepLine}
-use Rattle.scenario_file.specs.Steps.{Step}
-use Rattle.playing.specs.Played.{LinesPlayed, Refused}
+use Rattle.sim_scenario.specs.Complaints.{IsStepLine}
+use Rattle.sim_scenario.specs.Steps.{Step}
+use Rattle.sim_play.specs.Played.{LinesPlayed, Refused}
 use Rattle.runner.specs.Inner.Faults.{HasNoForm, WhyNoText, WhyNotExpanded}
 
 module _ {S : Type 0} (Takes : Step → S → S → Type 0) (Refuses : Step → S → Refusal → S → Type 0) where

@@ -5,12 +5,12 @@ use Rattle.std.specs.List.{flat_map}
 use Rattle.std.proofs.KnownBytes.{Appends-trans}
 use Rattle.std.proofs.lemmas.Grind.{flat_map-append}
 use Rattle.std.proofs.lemmas.List.{append-nil}
-use Rattle.scenario_file.specs.declared.scenario.Scenario.{Scenario}
-use Rattle.scenario_file.specs.declared.scenario.Settings.{Settings}
-use Rattle.sweep.specs.declared.row.Row.{Row}
-use Rattle.sweep.specs.Rows.{AreRows, key_at}
-use Rattle.sweep.specs.Tables.{csv_head, csv_line}
-use Rattle.sweep.proofs.Keys.{rows_behind}
+use Rattle.sim_scenario.specs.declared.scenario.Scenario.{Scenario}
+use Rattle.sim_scenario.specs.declared.scenario.Settings.{Settings}
+use Rattle.sim_sweep.specs.declared.row.Row.{Row}
+use Rattle.sim_sweep.specs.Rows.{AreRows, key_at}
+use Rattle.sim_sweep.specs.Tables.{csv_head, csv_line}
+use Rattle.sim_sweep.proofs.Keys.{rows_behind}
 use Rattle.runner.specs.Inner.Runs.{ShowsSome}
 
 -- the rows under no key are shown by the names alone

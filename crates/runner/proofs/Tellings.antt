@@ -9,20 +9,20 @@ use Rattle.cells.specs.Cells.{CellView}
 use Rattle.cluster.specs.Closing.{ClosesTo}
 use Rattle.event_texts.specs.Transcripts.{IsTranscript}
 use Rattle.transcript.specs.Records.{record_of}
-use Rattle.ending.specs.Endings.{TellsEnding}
-use Rattle.scenario_file.specs.declared.scenario.Scenario.{Scenario}
-use Rattle.scenario_file.specs.Complaints.{IsGood}
-use Rattle.scenario_file.specs.Objects.{IsScenarioText}
-use Rattle.scenario_file.specs.Steps.{Step}
-use Rattle.playing.specs.Played.{LinePlayed, LinesPlayed, Refused}
-use Rattle.file_runs.specs.Faults.{IsStatus}
+use Rattle.sim_ending.specs.Endings.{TellsEnding}
+use Rattle.sim_scenario.specs.declared.scenario.Scenario.{Scenario}
+use Rattle.sim_scenario.specs.Complaints.{IsGood}
+use Rattle.sim_scenario.specs.Objects.{IsScenarioText}
+use Rattle.sim_scenario.specs.Steps.{Step}
+use Rattle.sim_play.specs.Played.{LinePlayed, LinesPlayed, Refused}
+use Rattle.sim_files.specs.Faults.{IsStatus}
 use Rattle.runner.specs.Faults.{AskForHelp}
 use Rattle.runner.specs.ThreadSteps.{LinesOnThreads, RefusedOnThreads, TakenOnThreads}
 use Rattle.runner.specs.Told.{TellsThreads}
 use Rattle.runner.specs.Inner.Closed.{TellsClosed, TellsOnThreads}
 use Rattle.runner.specs.Inner.Faults.{IsFound}
-use Rattle.file_runs.specs.declared.fault.Fault.{Fault}
-use Rattle.file_runs.specs.declared.fault.Fault.TheVariants.{CommandLine, CannotRead, CannotWrite, BadScenario, BadTranscript, NoSuchEvent, Percentages, NoMemory, Output}
+use Rattle.sim_files.specs.declared.fault.Fault.{Fault}
+use Rattle.sim_files.specs.declared.fault.Fault.TheVariants.{CommandLine, CannotRead, CannotWrite, BadScenario, BadTranscript, NoSuchEvent, Percentages, NoMemory, Output}
 
 -- ---- threads
 

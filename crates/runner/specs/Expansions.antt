@@ -1,14 +1,14 @@
 -- What a scenario in short form comes to.
 use Rattle.std.specs.Prelude.{◌≡◌, ℕ, List, map}
 use Rattle.std.specs.List.{All}
-use Rattle.scenario_file.specs.Complaints.{IsStepLine}
-use Rattle.playing.specs.declared.play.Play.{Play}
-use Rattle.expansion.specs.declared.short.ShortScenario.{ShortScenario}
-use Rattle.expansion.specs.EachInTurn.{OfEach}
-use Rattle.expansion.specs.Expanded.{AreTaken, LinesOf}
-use Rattle.expansion.specs.Plains.{IsPlainOf, plain_form}
-use Rattle.expansion.specs.ShortSteps.{short_step}
-use Rattle.expansion.specs.Shorts.{IsShortText}
+use Rattle.sim_scenario.specs.Complaints.{IsStepLine}
+use Rattle.sim_play.specs.declared.play.Play.{Play}
+use Rattle.sim_expand.specs.declared.short.ShortScenario.{ShortScenario}
+use Rattle.sim_expand.specs.EachInTurn.{OfEach}
+use Rattle.sim_expand.specs.Expanded.{AreTaken, LinesOf}
+use Rattle.sim_expand.specs.Plains.{IsPlainOf, plain_form}
+use Rattle.sim_expand.specs.ShortSteps.{short_step}
+use Rattle.sim_expand.specs.Shorts.{IsShortText}
 
 -- each of its steps took these lines in turn, and by them a new group of its own came to stand so
 pub record TakesLines (s : ShortScenario) (lines : List (List ℕ)) : Type 0 where

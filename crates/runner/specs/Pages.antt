@@ -7,9 +7,9 @@ use Rattle.std.specs.declared.vec.Vec.{Vec}
 use Rattle.std.specs.Path.{path_file_name}
 use Rattle.serde.specs.Event.{InSeq, Log, Sends, Then, WritesSeq, text, unsigned}
 use Rattle.serde_json.specs.Sent.{IsTextOf}
-use Rattle.picture.specs.Pictures.{IsRunPicture, shown_byte}
-use Rattle.report_lines.specs.declared.changes.Change.{Change}
-use Rattle.report_lines.specs.declared.moments.Moments.{Moments}
+use Rattle.sim_draw.specs.Pictures.{IsRunPicture, shown_byte}
+use Rattle.sim_report_lines.specs.declared.changes.Change.{Change}
+use Rattle.sim_report_lines.specs.declared.moments.Moments.{Moments}
 use Rattle.runner.specs.declared.frame.TheConstants.{FRONT, STYLE, MIDDLE, BACK}
 
 -- ---- the JSON

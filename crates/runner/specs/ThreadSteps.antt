@@ -7,8 +7,8 @@ use Rattle.cells.specs.declared.own_input.OwnInput.{OwnInput}
 use Rattle.cells.specs.Actors.{own_event}
 use Rattle.group_threads.specs.Running.{TookInput}
 use Rattle.cells.specs.Turns.{WhyNoTurn, own_envelope}
-use Rattle.scenario_file.specs.Steps.{AnEvent, Flow, Step, Work}
-use Rattle.playing.specs.Played.{LinesPlayed, Refused}
+use Rattle.sim_scenario.specs.Steps.{AnEvent, Flow, Step, Work}
+use Rattle.sim_play.specs.Played.{LinesPlayed, Refused}
 
 -- it is the delivery of a message
 abbrev pub IsDelivery : Event → Type 0

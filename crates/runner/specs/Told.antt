@@ -9,28 +9,28 @@ use Rattle.event_texts.specs.Transcripts.{IsTranscript, Recorded, recorded}
 use Rattle.event_texts.specs.declared.transcript.Transcript.{Transcript}
 use Rattle.transcript.specs.Records.{record_of}
 use Rattle.runner.specs.Pages.{GrowsByPage}
-use Rattle.picture.specs.Pictures.{GrowsByPicture}
-use Rattle.inspection.specs.Told.{GrowsByLines}
-use Rattle.telling.specs.Told.{GrowsByEventLines}
-pub use Rattle.command_line.specs.Words.{AskFor, AskForThreads, words_fault}
-use Rattle.command_line.specs.declared.command.CommandLine.{CommandLine}
-use Rattle.command_line.specs.declared.command.CommandLine.TheVariants.{Run, Threads, Replay, Draw, Check, Tell, Inspect, Expand, Sweep}
-use Rattle.command_line.specs.declared.command.SweepWords.{SweepWords}
-use Rattle.scenario_file.specs.declared.scenario.Scenario.{Scenario}
-use Rattle.scenario_file.specs.declared.scenario.Settings.{Settings}
-use Rattle.scenario_file.specs.Complaints.{IsGood}
-use Rattle.scenario_file.specs.Objects.{IsScenarioText, step_lines}
-use Rattle.playing.specs.Played.{Refused}
-use Rattle.expansion.specs.Checked.{IsGoodShortText}
-use Rattle.sweep.specs.declared.row.Row.{Row}
-use Rattle.sweep.specs.declared.summary.Summary.{Summary}
-use Rattle.sweep.specs.Rows.{AreRows}
-use Rattle.sweep.specs.Summaries.{IsSummary}
-use Rattle.sweep.specs.Tables.{csv_text, summary_text}
-use Rattle.file_runs.specs.Notes.{TellsNotes}
-use Rattle.file_runs.specs.Plays.{TellsPlay}
-use Rattle.file_runs.specs.Refusals.{TellsRun}
-use Rattle.file_runs.specs.Replays.{TellsReplay}
+use Rattle.sim_draw.specs.Pictures.{GrowsByPicture}
+use Rattle.sim_inspect.specs.Told.{GrowsByLines}
+use Rattle.sim_tell.specs.Told.{GrowsByEventLines}
+pub use Rattle.sim_args.specs.Words.{AskFor, AskForThreads, words_fault}
+use Rattle.sim_args.specs.declared.command.CommandLine.{CommandLine}
+use Rattle.sim_args.specs.declared.command.CommandLine.TheVariants.{Run, Threads, Replay, Draw, Check, Tell, Inspect, Expand, Sweep}
+use Rattle.sim_args.specs.declared.command.SweepWords.{SweepWords}
+use Rattle.sim_scenario.specs.declared.scenario.Scenario.{Scenario}
+use Rattle.sim_scenario.specs.declared.scenario.Settings.{Settings}
+use Rattle.sim_scenario.specs.Complaints.{IsGood}
+use Rattle.sim_scenario.specs.Objects.{IsScenarioText, step_lines}
+use Rattle.sim_play.specs.Played.{Refused}
+use Rattle.sim_expand.specs.Checked.{IsGoodShortText}
+use Rattle.sim_sweep.specs.declared.row.Row.{Row}
+use Rattle.sim_sweep.specs.declared.summary.Summary.{Summary}
+use Rattle.sim_sweep.specs.Rows.{AreRows}
+use Rattle.sim_sweep.specs.Summaries.{IsSummary}
+use Rattle.sim_sweep.specs.Tables.{csv_text, summary_text}
+use Rattle.sim_files.specs.Notes.{TellsNotes}
+use Rattle.sim_files.specs.Plays.{TellsPlay}
+use Rattle.sim_files.specs.Refusals.{TellsRun}
+use Rattle.sim_files.specs.Replays.{TellsReplay}
 use Rattle.runner.specs.Expansions.{IsExpansion}
 use Rattle.runner.specs.Faults.{AskForHelp}
 use Rattle.runner.specs.ThreadSteps.{LinesOnThreads}

@@ -1,17 +1,17 @@
 //! What is wrong with a scenario's file, plain or in short form.
 ghost use Rattle.std.specs.Prelude.{◌≡◌, IfErr, IfOk};
-ghost use Rattle.expansion.specs.Checked.{IsGoodShortText};
-ghost use Rattle.file_runs.specs.declared.fault.Fault.TheVariants as faults;
-ghost use Rattle.file_runs.specs.Faults.{IsOfRun};
+ghost use Rattle.sim_expand.specs.Checked.{IsGoodShortText};
+ghost use Rattle.sim_files.specs.declared.fault.Fault.TheVariants as faults;
+ghost use Rattle.sim_files.specs.Faults.{IsOfRun};
 ghost use Rattle.runner.specs.Inner.Faults.{MayStopShort};
 ghost use Rattle.runner.specs.Told.{TellsCheck, TellsGoodShort};
 
-use expansion::checking::{ShortComplaint, short_complaints};
-use file_runs::checking::check_file;
-use file_runs::fault::{Fault, said};
-use file_runs::running::load_bytes;
-use file_runs::shelf::Shelf;
-use scenario_file::wrong::Wrong;
+use sim_expand::checking::{ShortComplaint, short_complaints};
+use sim_files::checking::check_file;
+use sim_files::fault::{Fault, said};
+use sim_files::running::load_bytes;
+use sim_files::shelf::Shelf;
+use sim_scenario::wrong::Wrong;
 use std::alloc::Global;
 use std::io::Write;
 

@@ -1,21 +1,21 @@
 //! A transcript's file, drawn.
 ghost use Rattle.std.specs.Prelude.{◌≡◌, ◌≢◌, ◌⊎◌, IfErr, IfOk, OnOk, length};
 ghost use Rattle.runner.specs.Pages.{GrowsByPage};
-ghost use Rattle.picture.specs.Pictures.{GrowsByPicture};
-ghost use Rattle.file_runs.specs.declared.fault.Fault.TheVariants as faults;
-ghost use Rattle.file_runs.specs.Faults.{IsOfRun, IsPastReading, MayStopPrinting};
+ghost use Rattle.sim_draw.specs.Pictures.{GrowsByPicture};
+ghost use Rattle.sim_files.specs.declared.fault.Fault.TheVariants as faults;
+ghost use Rattle.sim_files.specs.Faults.{IsOfRun, IsPastReading, MayStopPrinting};
 ghost use Rattle.runner.specs.Inner.Faults.{drawing_fault};
 ghost use Rattle.runner.specs.Told.{ShowsRun, TellsPicture};
 
 use crate::paging::page;
-use file_runs::fault::Fault;
-use file_runs::replaying::transcript_of;
-use file_runs::running::load_bytes;
-use file_runs::shelf::Shelf;
-use picture::{DrawError, draw};
+use sim_draw::{DrawError, draw};
+use sim_files::fault::Fault;
+use sim_files::replaying::transcript_of;
+use sim_files::running::load_bytes;
+use sim_files::shelf::Shelf;
+use sim_tell::event_lines;
 use std::alloc::Global;
 use std::io::Write;
-use telling::event_lines;
 use transcript::Transcript;
 
 /// Draws what a transcript says, as a picture or as a page.

@@ -2,17 +2,17 @@
 ghost use Rattle.std.specs.Prelude.{◌≡◌, ◌⊎◌, IfErr, IfOk, IsUtf8, OnOk, string_bytes};
 ghost use Rattle.runner.specs.Expansions.{IsExpansion};
 ghost use Rattle.runner.specs.Told.{TellsPlain};
-ghost use Rattle.file_runs.specs.Faults.{IsOfRun, IsPastReading};
+ghost use Rattle.sim_files.specs.Faults.{IsOfRun, IsPastReading};
 ghost use Rattle.runner.specs.Inner.Faults.{MayStopExpanding, WhyNotExpanded, WhyNoText};
 
 use crate::sweeping::show;
-use expansion::expanding::expanded;
-use expansion::plain::plain_text;
-use expansion::short::short_scenario;
-use file_runs::fault::Fault;
-use file_runs::running::load_bytes;
-use file_runs::shelf::Shelf;
 use rows::Refusal;
+use sim_expand::expanding::expanded;
+use sim_expand::plain::plain_text;
+use sim_expand::short::short_scenario;
+use sim_files::fault::Fault;
+use sim_files::running::load_bytes;
+use sim_files::shelf::Shelf;
 use std::alloc::Global;
 use std::io::Write;
 

@@ -14,8 +14,8 @@ mod seeing;
 mod sweeping;
 mod threads;
 
-pub use command_line::command;
-pub use file_runs::{checking, fault, shelf};
 pub use program::nomadsim;
-pub use scenario_file::{flaw, named, noting, reading, scenario, step, wrong};
-pub use sweep::sweeping::{Progress, Unseen};
+pub use sim_args::command;
+pub use sim_files::{checking, fault, shelf};
+pub use sim_scenario::{flaw, named, noting, reading, scenario, step, wrong};
+pub use sim_sweep::sweeping::{Progress, Unseen};

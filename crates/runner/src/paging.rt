@@ -1,22 +1,22 @@
 //! The page of a run.
 ghost use Rattle.std.specs.Prelude.{◌≡◌, ◌≢◌, ◌+◌, length, IfErr, IfOk, OnOk, string_bytes};
 ghost use Rattle.std.specs.Io.KnownBytes.{Appends};
-ghost use Rattle.labels.specs.Groups.{MayBe, MayNotBe};
-ghost use Rattle.picture.specs.declared.fault.DrawError.TheVariants as errors;
+ghost use Rattle.sim_labels.specs.Groups.{MayBe, MayNotBe};
+ghost use Rattle.sim_draw.specs.declared.fault.DrawError.TheVariants as errors;
 ghost use Rattle.runner.specs.Pages.{IsLinesJson, IsChangesJson, GrowsByPage, IsMoments, IsPage, framed, name_at};
 
 use crate::frame::{BACK, CLOSED, FRONT, MIDDLE, OPENED, STYLE};
 use crate::script::in_script;
 use group_inputs::Event;
-use inspection::{InspectError, each_moment};
-use picture::{DrawError, all_escaped, picture};
-use playback::PlaybackError;
-use report_lines::{Change, Moments};
 use rows::{NoMemory, NodeSpec};
+use sim_draw::{DrawError, all_escaped, picture};
+use sim_inspect::{InspectError, each_moment};
+use sim_playback::PlaybackError;
+use sim_report_lines::{Change, Moments};
+use sim_tell::event_lines;
 use std::alloc::Global;
 use std::io::Write;
 use std::path::Path;
-use telling::event_lines;
 
 /// Writes the page of a run: the group of so many servers and of these nodes' clients takes these
 /// events from its beginning. The page has the name of the file at a path, the picture of the run,

@@ -1,15 +1,15 @@
 //! The whole program, over files and streams that are handed in.
 ghost use Rattle.std.specs.Prelude.{◌≡◌, ◌≢◌, ◌≤◌, ◌⊎◌, ℕ, [], IfErr, IfOk, List, OnOk, Option, map};
 ghost use Rattle.std.specs.Io.KnownBytes.{Appends};
-ghost use Rattle.command_line.specs.Words.{AskFor, AskForPlay, AskForThreads, IsPlay, IsThreads, words_fault};
-ghost use Rattle.command_line.specs.declared.command.CommandLine.{CommandLine};
-ghost use Rattle.file_runs.specs.Faults.{IsStatus};
+ghost use Rattle.sim_args.specs.Words.{AskFor, AskForPlay, AskForThreads, IsPlay, IsThreads, words_fault};
+ghost use Rattle.sim_args.specs.declared.command.CommandLine.{CommandLine};
+ghost use Rattle.sim_files.specs.Faults.{IsStatus};
 ghost use Rattle.runner.specs.Faults.{IsExit};
 ghost use Rattle.runner.specs.Told.{Tells, TellsFor};
-ghost use Rattle.file_runs.specs.Faults.{IsOfRun};
+ghost use Rattle.sim_files.specs.Faults.{IsOfRun};
 ghost use Rattle.runner.specs.Inner.Faults.{IsFound};
 ghost use Rattle.runner.specs.Inner.Helps.{help_at, help_line, scenario_help, second_word};
-ghost use Rattle.file_runs.specs.declared.fault.Fault.TheVariants.{Output};
+ghost use Rattle.sim_files.specs.declared.fault.Fault.TheVariants.{Output};
 
 use crate::checks::check;
 use crate::drawing::draw_file;
@@ -18,16 +18,16 @@ use crate::seeing::{inspect_file, tell_file};
 use crate::sweeping::sweep_file;
 use crate::threads::threads_file;
 use clap::error::ErrorKind;
-use command_line::command::{CommandLine, command};
-use file_runs::fault::Fault;
-use file_runs::replaying::replay_file;
-use file_runs::running::run_file;
-use file_runs::shelf::Shelf;
+use sim_args::command::{CommandLine, command};
+use sim_files::fault::Fault;
+use sim_files::replaying::replay_file;
+use sim_files::running::run_file;
+use sim_files::shelf::Shelf;
+use sim_sweep::sweeping::Progress;
 use std::alloc::Global;
 use std::io::{self, Write};
 use std::sync::Wait;
 use std::thread::Threads;
-use sweep::sweeping::Progress;
 
 /// Runs the program on the words of its command line, of which the first is its own name, and
 /// answers its exit status: 0 where every step was taken, 1 where one was refused, 2 for a bad
@@ -42,7 +42,7 @@ use sweep::sweeping::Progress;
 /// Where the standard error is a terminal, one more line there helps behind a bad scenario or
 /// transcript.
 ///
-/// `sweep` tells `progress` how far it is, and nothing else does.
+/// `sim_sweep` tells `progress` how far it is, and nothing else does.
 ///
 /// Under `threads` it starts threads and waits for them, so that its return is not claimed.
 pub fn nomadsim<'a, R, F: Shelf, W: Write, E: Write, P: Progress + Sync>(

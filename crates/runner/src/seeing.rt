@@ -1,23 +1,23 @@
 //! A transcript's file, told event by event, or how its group stands after some of them.
 ghost use Rattle.std.specs.Prelude.{◌≡◌, ◌≢◌, ◌⊎◌, ℕ, IfErr, IfNone, IfOk, IfSome, OnOk, length, option_map};
-ghost use Rattle.inspection.specs.Told.{GrowsByLines};
-ghost use Rattle.telling.specs.Told.{GrowsByEventLines};
-ghost use Rattle.playback.specs.declared.fault.PlaybackError.TheVariants as stops;
-ghost use Rattle.file_runs.specs.declared.fault.Fault.TheVariants as faults;
-ghost use Rattle.file_runs.specs.Faults.{IsOfRun, IsPastReading};
+ghost use Rattle.sim_inspect.specs.Told.{GrowsByLines};
+ghost use Rattle.sim_tell.specs.Told.{GrowsByEventLines};
+ghost use Rattle.sim_playback.specs.declared.fault.PlaybackError.TheVariants as stops;
+ghost use Rattle.sim_files.specs.declared.fault.Fault.TheVariants as faults;
+ghost use Rattle.sim_files.specs.Faults.{IsOfRun, IsPastReading};
 ghost use Rattle.runner.specs.Inner.Faults.{form_in, seeing_fault};
 ghost use Rattle.runner.specs.Told.{IsAfter, TellsEach, TellsStanding};
 
 use event_texts::read_number;
-use file_runs::fault::Fault;
-use file_runs::replaying::transcript_of;
-use file_runs::running::load_bytes;
-use file_runs::shelf::Shelf;
-use inspection::{Form, InspectError, inspect};
-use playback::PlaybackError;
+use sim_files::fault::Fault;
+use sim_files::replaying::transcript_of;
+use sim_files::running::load_bytes;
+use sim_files::shelf::Shelf;
+use sim_inspect::{Form, InspectError, inspect};
+use sim_playback::PlaybackError;
+use sim_tell::tell;
 use std::alloc::Global;
 use std::io::Write;
-use telling::tell;
 use transcript::Transcript;
 
 /// Tells what each event of a transcript did.

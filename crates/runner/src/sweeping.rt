@@ -2,27 +2,27 @@
 ghost use Rattle.std.specs.Prelude.{◌≡◌, ◌≤◌, ◌<◌, ◌⊎◌, ◌+◌, true, false, IfErr, IfNone, IfOk, IfSome, List, OnOk};
 ghost use Rattle.std.specs.Io.KnownBytes.{Appends};
 ghost use Rattle.std.specs.List.{flat_map};
-ghost use Rattle.sweep.specs.declared.row.Row.{Row};
-ghost use Rattle.sweep.specs.Rows.{AreRows, key_at};
-ghost use Rattle.sweep.specs.Tables.{csv_line};
+ghost use Rattle.sim_sweep.specs.declared.row.Row.{Row};
+ghost use Rattle.sim_sweep.specs.Rows.{AreRows, key_at};
+ghost use Rattle.sim_sweep.specs.Tables.{csv_line};
 ghost use Rattle.runner.specs.Told.{IsUnder, ShowsRows, TellsSweep, settings_under};
-ghost use Rattle.file_runs.specs.Faults.{IsOfRun, IsPastReading, MayStopPrinting};
+ghost use Rattle.sim_files.specs.Faults.{IsOfRun, IsPastReading, MayStopPrinting};
 ghost use Rattle.runner.specs.Inner.Faults.{AreTooMany};
 ghost use Rattle.runner.specs.Inner.Runs.{ShowsRuns};
 
-use command_line::command::SweepWords;
-use file_runs::fault::{Fault, said};
-use file_runs::running::{check_steps, load};
-use file_runs::shelf::Shelf;
-use scenario_file::scenario::{Scenario, Settings};
+use sim_args::command::SweepWords;
+use sim_files::fault::{Fault, said};
+use sim_files::running::{check_steps, load};
+use sim_files::shelf::Shelf;
+use sim_scenario::scenario::{Scenario, Settings};
+use sim_sweep::row::Row;
+use sim_sweep::summary::summary_of;
+use sim_sweep::sweeping::{Progress, sweep};
+use sim_sweep::table::{csv_head, csv_lines, summary_text};
+use sim_sweep::task::Task;
 use std::alloc::Global;
 use std::io::Write;
 use std::thread::{Threads, available_parallelism};
-use sweep::row::Row;
-use sweep::summary::summary_of;
-use sweep::sweeping::{Progress, sweep};
-use sweep::table::{csv_head, csv_lines, summary_text};
-use sweep::task::Task;
 
 // How many threads play at most.
 const MOST: usize = 64;

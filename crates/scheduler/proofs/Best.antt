@@ -11,7 +11,7 @@ use Rattle.rows.specs.Keys.{node_number}
 use Rattle.rows.specs.Rising.{is_rising}
 use Rattle.fsm_tables.specs.Rows.{row_of}
 use Rattle.fsm_tables.specs.Claims.{Claim}
-use Rattle.cluster_model.specs.Words.{State}
+use Rattle.fsm_model.specs.Words.{State}
 use Rattle.group_model.specs.Scheduling.{has_room_for, fullness_with, is_as_good, IsBest, fits_nowhere}
 use Rattle.scheduler.specs.declared.load.Load.{Load}
 use Rattle.scheduler.specs.Inner.Loads.{load_of, takes_one_of, fullness_on, IsBestAt, IsBestOf}

@@ -13,7 +13,7 @@ use Rattle.rows.specs.Keys.{node_number}
 use Rattle.fsm_tables.specs.Rows.{row_of}
 use Rattle.fsm_tables.specs.Claims.{Claim}
 use Rattle.fsm_tables.proofs.RowLaws.{some_same}
-use Rattle.cluster_model.specs.Words.{State, eval_of}
+use Rattle.fsm_model.specs.Words.{State, eval_of}
 use Rattle.rows.specs.declared.worker.WorkerResponse.TheVariants.{Delivered, PlanResult, Refused}
 use Rattle.group_model.specs.Scheduling.{WantedName, PlanPart, is_full, with_stop, with_place, place_on, live_of_name, has_room_for, is_as_good, fullness_with, IsBest, fits_nowhere, IsNext, GoesOn, unsized, first_part, missing_names}
 use Rattle.group_model.specs.NextStep.{WorkerStep, IsStepWith, IsStepWithRow, IsStepOn, IsStepOnDelivery, after_plan}

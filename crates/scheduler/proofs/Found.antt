@@ -16,7 +16,7 @@ use Rattle.fsm_tables.specs.LiveNames.{is_called, live_named}
 use Rattle.fsm_tables.specs.declared.name.AllocName.{AllocName}
 use Rattle.fsm_tables.specs.Lookups.{lives_for}
 use Rattle.fsm_tables.proofs.RowLaws.{first, second, less, some_same}
-use Rattle.cluster_model.specs.Words.{State}
+use Rattle.fsm_model.specs.Words.{State}
 use Rattle.scheduler.specs.Inner.Growing.{IsLiveRow, AreLiveRows}
 
 module _ {K X : Type 0} (R : K → K → Ordering) (key : X → K) (o : IsTotalOrder R) where

@@ -9,8 +9,8 @@ use Rattle.rows.specs.declared.job.Job.{Job}
 use Rattle.rows.specs.declared.allocation.AllocId.{AllocId}
 use Rattle.rows.specs.declared.allocation.Allocation.{Allocation}
 use Rattle.fsm_tables.specs.Lookups.{lives_for}
-use Rattle.cluster_model.specs.Words.{State, job_of}
-use Rattle.cluster_model.proofs.Lists.{filter_both}
+use Rattle.fsm_model.specs.Words.{State, job_of}
+use Rattle.fsm_model.proofs.Lists.{filter_both}
 use Rattle.group_model.specs.Scheduling.{WantedName, names_from, names_of_groups, wanted_names, is_of_name, unwanted_stops}
 use Rattle.scheduler.specs.Inner.Names.{wanted_groups}
 use Rattle.scheduler.specs.Inner.Growing.{is_not_wanted, first_unwanted}

@@ -11,10 +11,10 @@ use Rattle.rows.specs.Rising.{is_rising}
 use Rattle.fsm_tables.specs.Rows.{row_of}
 use Rattle.fsm_tables.specs.Claims.{Claim, used}
 use Rattle.fsm_tables.proofs.RowLaws.{some_same}
-use Rattle.cluster_model.specs.Words.{State}
+use Rattle.fsm_model.specs.Words.{State}
 use Rattle.rows.specs.Sizes.{amount, fits}
 use Rattle.rows.proofs.SizeLaws.{of_fits, size_small, amount_of_plus}
-use Rattle.cluster_model.specs.Admission.{may_hold}
+use Rattle.fsm_model.specs.Admission.{may_hold}
 use Rattle.group_model.specs.Scheduling.{WantedName, PlanPart, live_of_name, claimed_by, with_stop, place_on, use_with, IsBest, IsNext}
 use Rattle.scheduler.specs.declared.load.Load.{Load}
 use Rattle.scheduler.specs.Inner.Loads.{load_of, load_less, IsBestAt, IsBestOf}

@@ -17,13 +17,13 @@ use Rattle.rows.specs.Keys.{alloc_cmp, alloc_id}
 use Rattle.rows.specs.Rising.{is_rising}
 use Rattle.fsm_tables.specs.Rows.{row_of}
 use Rattle.fsm_tables.specs.Claims.{Claim, claim_of, claims, on_node, used, is_live}
-use Rattle.cluster_model.specs.Words.{State, same_alloc}
-use Rattle.cluster_model.specs.Effect.{stop}
-use Rattle.cluster_model.specs.Plans.{ended}
-use Rattle.cluster_model.proofs.Lists.{maps}
-use Rattle.cluster_model.proofs.SafeLaws.{stop_releases}
-use Rattle.cluster_model.proofs.UseLaws.{released_sum}
-use Rattle.cluster_model.proofs.AfterLaws.{sums_same}
+use Rattle.fsm_model.specs.Words.{State, same_alloc}
+use Rattle.fsm_model.specs.Effect.{stop}
+use Rattle.fsm_model.specs.Plans.{ended}
+use Rattle.fsm_model.proofs.Lists.{maps}
+use Rattle.fsm_model.proofs.SafeLaws.{stop_releases}
+use Rattle.fsm_model.proofs.UseLaws.{released_sum}
+use Rattle.fsm_model.proofs.AfterLaws.{sums_same}
 use Rattle.fsm_tables.specs.Inner.Sums.{weight}
 use Rattle.fsm_state.specs.Inner.Alone.{claim_if_live, ended_by}
 use Rattle.fsm_state.proofs.Alone.{ended_sum, gone_sum}

@@ -2,7 +2,7 @@
 use Rattle.std.specs.Prelude.{◌≡◌, ℕ}
 use Rattle.rows.specs.declared.evaluation.Evaluation.{Evaluation}
 use Rattle.rows.specs.declared.worker.WorkerResponse.{WorkerResponse}
-use Rattle.cluster_model.specs.Words.{State}
+use Rattle.fsm_model.specs.Words.{State}
 use Rattle.group_model.specs.Scheduling.{WorkerPlan, IsPlanFor}
 use Rattle.group_model.specs.NextStep.{WorkerStep, IsNextStep}
 

@@ -3,7 +3,7 @@ use Rattle.std.specs.Prelude.{ℕ, Bool, false, not, ◌&&◌, nat_lt, is_some, 
 use Rattle.rows.specs.declared.token.Delivery.{Delivery}
 use Rattle.rows.specs.declared.worker.WorkerResponse.{WorkerResponse}
 use Rattle.rows.specs.declared.worker.WorkerResponse.TheVariants.{Delivered, PlanResult, Refused}
-use Rattle.cluster_model.specs.Words.{State, eval_of}
+use Rattle.fsm_model.specs.Words.{State, eval_of}
 use Rattle.group_model.specs.NextStep as steps
 use Rattle.group_model.specs.NextStep.{MOST_PLANS}
 use Rattle.scheduler.specs.declared.worker_step.WorkerStep.{WorkerStep}

@@ -1,6 +1,6 @@
 //! The plan for an evaluation.
 ghost use Rattle.std.specs.Prelude.{◌≡◌, ◌≤◌, IfOk, map, length};
-ghost use Rattle.cluster_model.specs.Words.{job_of};
+ghost use Rattle.fsm_model.specs.Words.{job_of};
 ghost use Rattle.group_model.specs.Scheduling.{IsPlanFor, unsized, version_of};
 
 use crate::growing::{first_stops, place_all};

@@ -1,7 +1,7 @@
 //! The names that a job wants.
 ghost use Rattle.std.specs.Prelude.{◌≡◌, ◌&&◌, bytes_eq, nat_lt, option_map};
 ghost use Rattle.std.specs.List.{list_any};
-ghost use Rattle.cluster_model.specs.Words.{job_of};
+ghost use Rattle.fsm_model.specs.Words.{job_of};
 ghost use Rattle.group_model.specs.Scheduling.{names_of_groups, is_of_name, live_of_name};
 ghost use Rattle.group_model.specs.Scheduling.{is_current, is_missing};
 ghost use Rattle.scheduler.specs.Inner.Names.{wanted_groups};

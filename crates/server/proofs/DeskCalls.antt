@@ -7,10 +7,10 @@ use Rattle.rows.specs.declared.plan.Plan.{Plan}
 use Rattle.rows.specs.declared.command.Command.{Command}
 use Rattle.rows.specs.declared.refusal.Refusal.{Refusal}
 use Rattle.rows.specs.declared.refusal.Refusal.TheVariants as refusals
-use Rattle.cluster_model.specs.Words.{State}
+use Rattle.fsm_model.specs.Words.{State}
 use Rattle.group_model.specs.Brokers.{Given, Nothing, UsedUp, Gives, deliver, outstanding, is_outstanding, with_ack, with_nack}
-use Rattle.group_model.specs.Expiry.{BeatCount, beat_count_of}
-use Rattle.group_model.specs.BeatCounts.{beat_counted_of}
+use Rattle.group_model.specs.Expiry.{HeartbeatCount, heartbeat_count_of}
+use Rattle.group_model.specs.HeartbeatCounts.{heartbeat_counted_of}
 use Rattle.group_model.specs.Order.{Picked}
 use Rattle.group_model.specs.Plans.{submitted}
 use Rattle.group_model.specs.Queues.{first_plan}
@@ -18,11 +18,11 @@ use Rattle.group_model.specs.Desks.{Desk, QueuedPlan, applied_state}
 use Rattle.group_model.specs.Servers.{Server, open_desk}
 use Rattle.raft_model.specs.Rafts.{Raft, is_leader}
 use Rattle.raft_core.specs.RaftView.{SameRaft}
-use Rattle.leader.specs.OpenDesks.{OpenDesk, IsOverBlocked, LacksMemory, Answered, leaves_open, at_open, with_broker, once_given, once_outstanding, once_counted, once_submitted, on_deliver, on_ack, on_nack, on_lapse, on_submit, on_beat}
+use Rattle.leader.specs.OpenDesks.{OpenDesk, IsOverBlocked, OutOfMemoryIfOpen, Answered, leaves_open, at_open, with_broker, once_given, once_outstanding, once_counted, once_submitted, on_deliver, on_ack, on_nack, on_lapse, on_submit, on_heartbeat}
 use Rattle.leader.specs.Verdicts.{once_picked, on_plan_turn}
 use Rattle.leader.specs.Staying.{IsOver}
 use Rattle.leader.proofs.Staying.{deliver_stays, ack_stays, nack_stays, lapse_stays, beat_stays, submit_stays, plan_turn_stays}
-use Rattle.server.specs.ServerViews.{ServerView, IsServer, IsOfLeader, group_desk}
+use Rattle.server.specs.ServerViews.{ServerView, RefinesServer, IsOfLeader, group_desk}
 use Rattle.server.specs.Refusals.{HasOpenDesk}
 use Rattle.server.proofs.Servers.{same_raft, desk_at, open_at}
 
@@ -73,7 +73,7 @@ module _ {A : Type 0} (call : OpenDesk → Answered A) where
   left_by o (Ok p) = p.1
 
 -- a refusal that is no want of memory
-pub not_lacking : {P : Type 0} (d : Option OpenDesk) (e : Refusal) → e ≢ refusals.NoMemory → LacksMemory d e ⊎ P → P
+pub not_lacking : {P : Type 0} (d : Option OpenDesk) (e : Refusal) → e ≢ refusals.NoMemory → OutOfMemoryIfOpen d e ⊎ P → P
 not_lacking d e other (inr p) = p
 not_lacking None e other (inl l) = absurd l
 not_lacking (Some o) e other (inl l) = absurd (other l)
@@ -90,10 +90,10 @@ pub record Moves {A : Type 0} (call : OpenDesk → Answered A) (s : Server) (a :
   pub is_open : open_desk s ≡ Ok before.desk
   pub of : IsOfLeader s.raft before
   pub answers : call before ≡ Ok (a, after)
-  pub server : IsServer new (record s { desk = Some after.desk })
+  pub server : RefinesServer new (record s { desk = Some after.desk })
 
 module _ {A : Type 0} (call : OpenDesk → Answered A) (keeps : Keeps call) (s : Server) where
-  pub moves : (old new : ServerView) (a : A) → is_leader s.raft.mode ≡ true → IsServer old s → SameRaft old.raft new.raft → at_open call old.desk ≡ Ok (a, new.desk) → Moves call s a new
+  pub moves : (old new : ServerView) (a : A) → is_leader s.raft.mode ≡ true → RefinesServer old s → SameRaft old.raft new.raft → at_open call old.desk ≡ Ok (a, new.desk) → Moves call s a new
   moves old new a leads is same h =
       let k = called call old.desk a new.desk h in
       let of : IsOfLeader s.raft k.before = subst (λ (d : Option OpenDesk). IfSome d (IsOfLeader s.raft)) k.was is.led in
@@ -120,7 +120,7 @@ pub record Holds {A : Type 0} (call : OpenDesk → Answered A) (s : Server) (e :
   pub is_open : open_desk s ≡ Ok desk.desk
   pub answers : call desk ≡ Err e
 
-pub holds : {A : Type 0} (call : OpenDesk → Answered A) (s : Server) (old : ServerView) (e : Refusal) → HasOpenDesk s → IsServer old s → at_open call old.desk ≡ Err e → Holds call s e
+pub holds : {A : Type 0} (call : OpenDesk → Answered A) (s : Server) (old : ServerView) (e : Refusal) → HasOpenDesk s → RefinesServer old s → at_open call old.desk ≡ Err e → Holds call s e
 holds call s old e h is refuses =
     let o = open_of old.desk (subst (λ (d : Option Desk). is_some d ≡ true) (sym is.desk) h.is_open) in
     record { desk = o.0; was = desk_at old s is o.0 o.1; is_open = open_at old s is o.0 h.leads o.1; answers = refused call old.desk o.0 e o.1 refuses }
@@ -154,12 +154,12 @@ lapse_term id o false = refl
 pub lapse_keeps : (id : EvalId) → Keeps (on_lapse id)
 lapse_keeps id s o a new over h = (lapse_stays s id o a new over h, term_kept (on_lapse id) o a new (lapse_term id o (is_outstanding id o.desk.broker)) h)
 
-beat_term : (node : ℕ) (o : OpenDesk) (c : Option BeatCount) → (left_by (on_beat node) o (once_counted o (beat_counted_of node o.desk.beat_counts c))).term ≡ o.term
+beat_term : (node : ℕ) (o : OpenDesk) (c : Option HeartbeatCount) → (left_by (on_heartbeat node) o (once_counted o (heartbeat_counted_of node o.desk.heartbeat_counts c))).term ≡ o.term
 beat_term node o None = refl
 beat_term node o (Some c) = refl
 
-pub beat_keeps : (node : ℕ) → Keeps (on_beat node)
-beat_keeps node s o a new over h = (beat_stays s node o a new over h, term_kept (on_beat node) o a new (beat_term node o (beat_count_of node o.desk.beat_counts)) h)
+pub beat_keeps : (node : ℕ) → Keeps (on_heartbeat node)
+beat_keeps node s o a new over h = (beat_stays s node o a new over h, term_kept (on_heartbeat node) o a new (beat_term node o (heartbeat_count_of node o.desk.heartbeat_counts)) h)
 
 picked_term : (whole : State) (o : OpenDesk) (p : Option (Picked QueuedPlan)) → (once_picked whole o p).1.term ≡ o.term
 picked_term whole o None = refl

@@ -10,10 +10,10 @@ use Rattle.machine_model.specs.declared.entry.Entry.{Entry}
 use Rattle.raft_model.specs.Logs.{commands, state_after}
 use Rattle.raft_model.specs.Rafts.{Raft, is_leader, Candidate}
 use Rattle.raft_snapshot.specs.Watching.{SeesAll, SeesStep}
-use Rattle.cluster_model.specs.Words.{State}
-use Rattle.cluster_model.specs.Effect.{applied}
-use Rattle.cluster_model.specs.ClusterMachine.{cluster_meaning}
-use Rattle.cluster_model.proofs.StateLaws.{empty_are_tables, applied_are_tables}
+use Rattle.fsm_model.specs.Words.{State}
+use Rattle.fsm_model.specs.Effect.{applied}
+use Rattle.fsm_model.specs.ClusterMachine.{cluster_spec}
+use Rattle.fsm_model.proofs.StateLaws.{empty_are_tables, applied_are_tables}
 use Rattle.group_model.specs.Desks.{after_entry, after_entries, applied_state, newly, desk_after}
 use Rattle.machine_model.proofs.Afters.{after_from-append}
 use Rattle.raft_snapshot.proofs.Applies.{commands-append}
@@ -27,12 +27,12 @@ use Rattle.server.proofs.Serving.{drop_same}
 use Rattle.server.proofs.Leads.{LeadsOn, stays, rises}
 
 -- tables are in order in each state of a log
-tables_from : (s : State) (cs : List Command) → AreTables s → AreTables (after_from cluster_meaning s cs)
+tables_from : (s : State) (cs : List Command) → AreTables s → AreTables (after_from cluster_spec s cs)
 tables_from s [] t = t
 tables_from s (c ∷ cs) t = tables_from (applied s c) cs (applied_are_tables s c t)
 
-pub log_tables : (es : List (Entry Command)) → AreTables (state_after cluster_meaning es)
-log_tables es = tables_from cluster_meaning.empty (commands es) empty_are_tables
+pub log_tables : (es : List (Entry Command)) → AreTables (state_after cluster_spec es)
+log_tables es = tables_from cluster_spec.empty (commands es) empty_are_tables
 
 -- a desk of this term, and of this state
 abbrev IsAt : ℕ → State → Option OpenDesk → Type 0
@@ -55,7 +55,7 @@ module _ (term : ℕ) (s : State) (tables : AreTables s) (e : Entry Command) whe
       (ap (λ d. Some d) f.desk, (h.term ∙ at.0, f.over))
 
 -- entry by entry
-all_entries : (term : ℕ) (s : State) (es : List (Entry Command)) (w new : Option OpenDesk) → AreTables s → IsAt term s w → SeesAll cluster_meaning DeskSees term s es w new → (group_desk new ≡ after_entries term s es (group_desk w)) × IsAt term (after_from cluster_meaning s (commands es)) new
+all_entries : (term : ℕ) (s : State) (es : List (Entry Command)) (w new : Option OpenDesk) → AreTables s → IsAt term s w → SeesAll cluster_spec DeskSees term s es w new → (group_desk new ≡ after_entries term s es (group_desk w)) × IsAt term (after_from cluster_spec s (commands es)) new
 unfolding commands
 all_entries term s [] w new t at h = rw h (refl, at)
 all_entries term s (e ∷ es) w new t at h =
@@ -65,11 +65,11 @@ all_entries term s (e ∷ es) w new t at h =
 
 -- ---- a step of the log
 
-state_on : (log : List (Entry Command)) (c d : ℕ) → c ≤ d → after_from cluster_meaning (state_after cluster_meaning (take c log)) (commands (drop c (take d log))) ≡ state_after cluster_meaning (take d log)
+state_on : (log : List (Entry Command)) (c d : ℕ) → c ≤ d → after_from cluster_spec (state_after cluster_spec (take c log)) (commands (drop c (take d log))) ≡ state_after cluster_spec (take d log)
 state_on log c d le =
     let rest = drop c (take d log) in
     let whole : take d log ≡ take c log ++ rest = sym (take-append-drop c (take d log)) ∙ ap (λ (es : List (Entry Command)). es ++ rest) (take-take c d log le) in
-    sym (ap (state_after cluster_meaning) whole ∙ ap (after cluster_meaning) (commands-append (take c log) rest) ∙ after_from-append cluster_meaning cluster_meaning.empty (commands (take c log)) (commands rest))
+    sym (ap (state_after cluster_spec) whole ∙ ap (after cluster_spec) (commands-append (take c log) rest) ∙ after_from-append cluster_spec cluster_spec.empty (commands (take c log)) (commands rest))
 
 -- a desk is the leader's, of its term and of the state that it has applied
 abbrev IsLed : Raft Command → Option OpenDesk → Type 0
@@ -99,25 +99,25 @@ abbrev GoesOn : Raft Command → Raft Command → Option OpenDesk → Option Ope
 GoesOn s t w new = (group_desk new ≡ desk_after s t (group_desk w)) × IsLed t new
 
 module _ (s t : Raft Command) (w seen : Option OpenDesk) where
-  leads_still : is_leader t.mode ≡ true → IsLed s w → SeesAll cluster_meaning DeskSees t.term (applied_state s) (newly s t) w seen → LeadsOn s t → GoesOn s t w seen
+  leads_still : is_leader t.mode ≡ true → IsLed s w → SeesAll cluster_spec DeskSees t.term (applied_state s) (newly s t) w seen → LeadsOn s t → GoesOn s t w seen
   leads_still leads h sees (stays was term log commit) =
       let all = all_entries t.term (applied_state s) (newly s t) w seen (log_tables (take s.commit s.log)) (led_at s t.term w term h) sees in
-      let state : after_from cluster_meaning (applied_state s) (commands (newly s t)) ≡ applied_state t =
-      subst (λ (l : List (Entry Command)). after_from cluster_meaning (state_after cluster_meaning (take s.commit l)) (commands (newly s t)) ≡ applied_state t) log (state_on t.log s.commit t.commit commit) in
+      let state : after_from cluster_spec (applied_state s) (commands (newly s t)) ≡ applied_state t =
+      subst (λ (l : List (Entry Command)). after_from cluster_spec (state_after cluster_spec (take s.commit l)) (commands (newly s t)) ≡ applied_state t) log (state_on t.log s.commit t.commit commit) in
       (rw leads all.0, at_led t seen leads (subst (λ x. IsAt t.term x seen) state all.1))
   leads_still leads h sees (rises votes mode commit) =
       let nothing : newly s t ≡ [] = ap (λ c. drop s.commit (take c t.log)) commit ∙ drop_same s.commit t.log in
       let none : w ≡ None = none_led s votes w mode h in
-      let same : seen ≡ w = subst (λ es. SeesAll cluster_meaning DeskSees t.term (applied_state s) es w seen) nothing sees in
+      let same : seen ≡ w = subst (λ es. SeesAll cluster_spec DeskSees t.term (applied_state s) es w seen) nothing sees in
       rw (same, none, leads, nothing) (refl, tt)
 
-  leads_or : (b : Bool) → is_leader t.mode ≡ b → IsLed s w → SeesStep cluster_meaning DeskSees s t w seen → (is_leader t.mode ≡ true → LeadsOn s t) → GoesOn s t w (where_leads b seen)
+  leads_or : (b : Bool) → is_leader t.mode ≡ b → IsLed s w → SeesStep cluster_spec DeskSees s t w seen → (is_leader t.mode ≡ true → LeadsOn s t) → GoesOn s t w (where_leads b seen)
   leads_or true leads h sees on = leads_still leads h (rw leads at sees) (on leads)
   leads_or false leads h sees on = rw leads (refl, tt)
 
 -- The desk after a step of the log, closed where the server does not lead, is that of the
 -- definitions; and it is of the leader.
-pub goes_on : (s t : Raft Command) (w seen new : Option OpenDesk) → IfSome w (IsOfLeader s) → SeesStep cluster_meaning DeskSees s t w seen → (is_leader t.mode ≡ true → LeadsOn s t) → new ≡ where_leads (is_leader t.mode) seen → (group_desk new ≡ desk_after s t (group_desk w)) × IfSome new (IsOfLeader t)
+pub goes_on : (s t : Raft Command) (w seen new : Option OpenDesk) → IfSome w (IsOfLeader s) → SeesStep cluster_spec DeskSees s t w seen → (is_leader t.mode ≡ true → LeadsOn s t) → new ≡ where_leads (is_leader t.mode) seen → (group_desk new ≡ desk_after s t (group_desk w)) × IfSome new (IsOfLeader t)
 goes_on s t w seen new h sees on is =
     let g = leads_or s t w seen (is_leader t.mode) refl (led s w h) sees on in
     rw is (g.0, is_of_leader t (where_leads (is_leader t.mode) seen) g.1)

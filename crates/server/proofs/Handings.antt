@@ -19,25 +19,25 @@ use Rattle.wire.specs.declared.kind.Kind.{Kind}
 use Rattle.wire.specs.declared.kind.Kind.TheVariants as kinds
 use Rattle.raft_model.specs.Messages.{Message, to_others}
 use Rattle.raft_model.specs.Logs.{MAX}
-use Rattle.raft_model.specs.Rafts.{RaftTurn, is_up, is_leader, crashed, silent, stood, vote_request_to}
+use Rattle.raft_model.specs.Rafts.{RaftTurn, is_up, is_leader, crashed, silent, election_started, vote_request_to}
 use Rattle.raft_model.specs.Steps as raft_steps
 use Rattle.raft_core.specs.Frames.{Means}
 use Rattle.raft_core.specs.Inputs.{Own}
 use Rattle.raft_core.specs.Refusals.{misdirected, message_fault, message_refusal, refusal_by, IsRefused, HidesNothing, IsMessageRefused, Stays, MessageStays}
-use Rattle.cluster_model.specs.Words.{State}
-use Rattle.cluster_model.specs.ClusterMachine.{cluster_meaning}
-use Rattle.cluster_model.proofs.ClusterMachine.{cluster_lawful}
+use Rattle.fsm_model.specs.Words.{State}
+use Rattle.fsm_model.specs.ClusterMachine.{cluster_spec}
+use Rattle.fsm_model.proofs.ClusterMachine.{cluster_lawful}
 use Rattle.group_model.specs.Messages.{GroupMessage, OfLog, Service, ServiceMessage}
 use Rattle.group_model.specs.Inputs.{Input, Timeout, AskTimeout, Act, asks}
 use Rattle.group_model.specs.Servers.{Server, acts, wakes, logged, done, step}
 use Rattle.group_frames.specs.GroupFrames.{service_between, service_of, IsGroupFrame}
 use Rattle.group_frames.proofs.OneMessage.{one_text}
 use Rattle.server.specs.declared.server.Outbox.{Outbox}
-use Rattle.server.specs.ServerViews.{ServerView, IsServer, SameServer}
+use Rattle.server.specs.ServerViews.{ServerView, RefinesServer, SameServer}
 use Rattle.group_inputs.specs.Handings.{Handing, FrameBytes, OwnInput}
 use Rattle.server.specs.Steps.{TakesTurn, TakesHanding}
-use Rattle.server.specs.Refusals.{refusal_in, wrong_address, read_refusal, bytes_refusal, handing_refusal, CanStand, MayTakeMemory, IsHandingRefused, HandingRefusalLeaves, HandingStays}
-use Rattle.server.specs.Inner.Acts.{EachServer, EachDoes, act_of, Falters, DoesNothing, DeclinesOwn}
+use Rattle.server.specs.Refusals.{refusal_in, wrong_address, read_refusal, bytes_refusal, handing_refusal, CanStand, OutOfMemoryMayEnd, IsHandingRefused, HandingRefusalLeaves, HandingStays}
+use Rattle.server.specs.Inner.Acts.{EachServer, EachDoes, act_of, OutOfMemoryTurn, DoesNothing, DeclinesOwn}
 use Rattle.server.specs.Inner.LogSteps.{DeskAfterRefusal, TakesLogMessage, TakesAsk, MeansGroup, TakesRead, DeclinesRead, IsRead, LosesIn, DeclinesHanding, IsTaken}
 use Rattle.server.proofs.Servers.{up_of}
 
@@ -50,7 +50,7 @@ own_step : (n me : ℕ) (s : Server) (input : Input) → is_up s.raft.mode ≡ t
 own_step n me s input up = ap (λ b. done n me s (if b then acts n me s input else wakes s input)) up
 
 module _ (old new : ServerView) (before after : Outbox) (h : Handing) (input : Input) (is : h ≡ OwnInput input) (up : is_up old.raft.server.mode ≡ true) where
-  at : (s : Server) → IsServer old s → step old.raft.size old.raft.me s input ≡ done old.raft.size old.raft.me s (act_of old input s)
+  at : (s : Server) → RefinesServer old s → step old.raft.size old.raft.me s input ≡ done old.raft.size old.raft.me s (act_of old input s)
   at s is_of = own_step old.raft.size old.raft.me s input (up_of old s is_of up)
 
   pub own_taken : (r : Answer) → OnOk r (EachDoes old (act_of old input) new before after) → OnOk r (EachServer old (λ s. TakesHanding old s h new before after))
@@ -62,11 +62,11 @@ module _ (old new : ServerView) (before after : Outbox) (h : Handing) (input : I
   own_admitted (Ok u) does = λ s is_of. ap (handing_refusal old.raft.size old.raft.me s) is ∙ ap refusal_in (at s is_of ∙ (does s is_of).is)
   own_admitted (Err cause) does = tt
 
-  declined : (EachServer old (λ s. MayTakeMemory old.raft.size s input) × Falters old new before after → LosesIn old (OwnInput input) new before after) → (cause : Refusal) → DeclinesOwn old input cause new before after → DeclinesHanding old (OwnInput input) cause new before after
+  declined : (EachServer old (λ s. OutOfMemoryMayEnd old.raft.size s input) × OutOfMemoryTurn old new before after → LosesIn old (OwnInput input) new before after) → (cause : Refusal) → DeclinesOwn old input cause new before after → DeclinesHanding old (OwnInput input) cause new before after
   declined loses refusals.NoMemory d = loses d
   declined loses cause d = (λ s is_of. ap refusal_in (at s is_of ∙ d.0 s is_of), d.1)
 
-  pub own_declined : (EachServer old (λ s. MayTakeMemory old.raft.size s input) × Falters old new before after → LosesIn old (OwnInput input) new before after) → (r : Answer) → IfErr r (λ cause. DeclinesOwn old input cause new before after) → IfErr r (λ cause. DeclinesHanding old h cause new before after)
+  pub own_declined : (EachServer old (λ s. OutOfMemoryMayEnd old.raft.size s input) × OutOfMemoryTurn old new before after → LosesIn old (OwnInput input) new before after) → (r : Answer) → IfErr r (λ cause. DeclinesOwn old input cause new before after) → IfErr r (λ cause. DeclinesHanding old h cause new before after)
   own_declined loses (Ok u) d = tt
   own_declined loses (Err cause) d = subst (λ x. DeclinesHanding old x cause new before after) (sym is) (declined loses cause d)
 
@@ -80,12 +80,12 @@ module _ (old new : ServerView) (h : Handing) (input : Input) (is : h ≡ OwnInp
   silent_admitted (Ok u) d = own_admitted old new o o h input is up (Ok u) (d o)
   silent_admitted (Err cause) d = tt
 
-  silent_declined : (EachServer old (λ s. MayTakeMemory old.raft.size s input) × Falters old new o o → LosesIn old (OwnInput input) new o o) → (r : Answer) → IfErr r (λ cause. (out : Outbox) → DeclinesOwn old input cause new out out) → IfErr r (λ cause. DeclinesHanding old h cause new o o)
+  silent_declined : (EachServer old (λ s. OutOfMemoryMayEnd old.raft.size s input) × OutOfMemoryTurn old new o o → LosesIn old (OwnInput input) new o o) → (r : Answer) → IfErr r (λ cause. (out : Outbox) → DeclinesOwn old input cause new out out) → IfErr r (λ cause. DeclinesHanding old h cause new o o)
   silent_declined loses (Ok u) d = tt
   silent_declined loses (Err cause) d = own_declined old new o o h input is up loses (Err cause) (d o)
 
   pub silent_turn : (new.raft.me ≡ old.raft.me) × (new.raft.size ≡ old.raft.size)
-      → (EachServer old (λ s. MayTakeMemory old.raft.size s input) × Falters old new o o → LosesIn old (OwnInput input) new o o) → (r : Answer)
+      → (EachServer old (λ s. OutOfMemoryMayEnd old.raft.size s input) × OutOfMemoryTurn old new o o → LosesIn old (OwnInput input) new o o) → (r : Answer)
       → OnOk r ((out : Outbox) → EachDoes old (act_of old input) new out out) → IfErr r (λ cause. (out : Outbox) → DeclinesOwn old input cause new out out)
       → IsTaken old h r new o o
   silent_turn same loses r does stopped = record {
@@ -160,17 +160,17 @@ no_service (actors.Client c) (actors.Server j) (bodies.InstallReply r) y log is 
 no_service (actors.Client c) (actors.Client d) (bodies.InstallReply r) y log is = no_some y is
 
 module _ (old new : ServerView) (before after : Outbox) (read : WireMessage State Command) (up : is_up old.raft.server.mode ≡ true) (log : is_of_log (kind_of read.body) ≡ true) (goes : may_go (kind_of read.body) read.from read.to ≡ true) where
-  log_refusal : (s : Server) → IsServer old s → message_refusal old.raft.size old.raft.me s.raft read ≡ wrong_address old.raft.size old.raft.me read.from read.to
+  log_refusal : (s : Server) → RefinesServer old s → message_refusal old.raft.size old.raft.me s.raft read ≡ wrong_address old.raft.size old.raft.me read.from read.to
   log_refusal s is =
       ap (λ b. if b then message_fault old.raft.size old.raft.me read else Some refusals.Down) (up_of old s is up)
       ∙ (ap (λ b. if b then misdirected old.raft.size old.raft.me read.from read.to else Some (refusals.Frame 1)) log
       ∙ server_sends old.raft.size old.raft.me (kind_of read.body) read.from read.to log goes)
 
-  log_read : ((said : Message Command) → Means cluster_meaning read said → TakesLogMessage old said new before after) → EachServer old (λ s. TakesRead old s read new before after)
+  log_read : ((said : Message Command) → Means cluster_spec read said → TakesLogMessage old said new before after) → EachServer old (λ s. TakesRead old s read new before after)
   log_read heard s is (OfLog said) means = heard said means s is
   log_read heard s is (Service message) means = absurd (no_service read.from read.to read.body message log means)
 
-  log_taken : (r : Answer) → OnOk r ((said : Message Command) → Means cluster_meaning read said → TakesLogMessage old said new before after) → OnOk r (EachServer old (λ s. TakesRead old s read new before after))
+  log_taken : (r : Answer) → OnOk r ((said : Message Command) → Means cluster_spec read said → TakesLogMessage old said new before after) → OnOk r (EachServer old (λ s. TakesRead old s read new before after))
   log_taken (Ok u) heard = log_read heard
   log_taken (Err cause) heard = tt
 
@@ -203,7 +203,7 @@ module _ (old new : ServerView) (before after : Outbox) (read : WireMessage Stat
 
   pub log_is_read : (r : Answer)
       → (new.raft.me ≡ old.raft.me) × (new.raft.size ≡ old.raft.size)
-      → OnOk r ((said : Message Command) → Means cluster_meaning read said → TakesLogMessage old said new before after)
+      → OnOk r ((said : Message Command) → Means cluster_spec read said → TakesLogMessage old said new before after)
       → OnOk r (EachServer old (λ s. message_refusal old.raft.size old.raft.me s.raft read ≡ None))
       → IfErr r (λ cause. EachServer old (λ s. IsMessageRefused old.raft.size old.raft.me s.raft read cause))
       → IfErr r (λ cause. MessageStays cause old.raft new.raft)
@@ -233,14 +233,14 @@ room_by false leads index_left a b c e is_up follows h = absurd (cc)
 
 module _ (n me : ℕ) (s : Server) (up : is_up s.raft.mode ≡ true) where
   abbrev by : Result (RaftTurn Command) Refusal
-  by = raft_steps.step cluster_meaning n me s.raft raft_steps.Timeout
+  by = raft_steps.step cluster_spec n me s.raft raft_steps.Timeout
 
   can_stand : is_leader s.raft.mode ≡ false → refusal_by by ≡ None → CanStand s
   can_stand follows none = record {
     up = up;
     follows = follows;
     index_left = room_by (is_up s.raft.mode) (is_leader s.raft.mode) (nat_lt s.raft.term MAX && nat_lt (length s.raft.log) MAX)
-        (Ok (silent s.raft)) (Ok (record { server = stood n me s.raft; sent = to_others me (vote_request_to me (stood n me s.raft)) n }))
+        (Ok (silent s.raft)) (Ok (record { server = election_started n me s.raft; sent = to_others me (vote_request_to me (election_started n me s.raft)) n }))
         (raft_steps.wakes s.raft raft_steps.Timeout) refusals.Exhausted up follows none;
   }
 
@@ -249,8 +249,8 @@ module _ (n me : ℕ) (s : Server) (up : is_up s.raft.mode ≡ true) where
 
 module _ (old new : ServerView) (before after : Outbox) (up : is_up old.raft.server.mode ≡ true) where
   timeout_declined : (new.raft.me ≡ old.raft.me) → (new.raft.size ≡ old.raft.size) → (cause : Refusal)
-      → EachServer old (λ s. IsRefused cluster_meaning old.raft.size old.raft.me s.raft (Own raft_steps.Timeout) cause)
-      → EachServer old (λ s. HidesNothing cluster_meaning old.raft.size old.raft.me s.raft (Own raft_steps.Timeout) cause)
+      → EachServer old (λ s. IsRefused cluster_spec old.raft.size old.raft.me s.raft (Own raft_steps.Timeout) cause)
+      → EachServer old (λ s. HidesNothing cluster_spec old.raft.size old.raft.me s.raft (Own raft_steps.Timeout) cause)
       → Stays (Own raft_steps.Timeout) cause old.raft new.raft
       → DeskAfterRefusal cause old.desk new.desk → after ≡ before
       → DeclinesHanding old (OwnInput Timeout) cause new before after
@@ -271,8 +271,8 @@ module _ (old new : ServerView) (before after : Outbox) (up : is_up old.raft.ser
   )
 
   timeout_stopped : (new.raft.me ≡ old.raft.me) → (new.raft.size ≡ old.raft.size) → (r : Answer)
-      → IfErr r (λ cause. EachServer old (λ s. IsRefused cluster_meaning old.raft.size old.raft.me s.raft (Own raft_steps.Timeout) cause))
-      → IfErr r (λ cause. EachServer old (λ s. HidesNothing cluster_meaning old.raft.size old.raft.me s.raft (Own raft_steps.Timeout) cause))
+      → IfErr r (λ cause. EachServer old (λ s. IsRefused cluster_spec old.raft.size old.raft.me s.raft (Own raft_steps.Timeout) cause))
+      → IfErr r (λ cause. EachServer old (λ s. HidesNothing cluster_spec old.raft.size old.raft.me s.raft (Own raft_steps.Timeout) cause))
       → IfErr r (λ cause. Stays (Own raft_steps.Timeout) cause old.raft new.raft)
       → IfErr r (λ cause. DeskAfterRefusal cause old.desk new.desk)
       → OnErr r (after ≡ before)
@@ -283,8 +283,8 @@ module _ (old new : ServerView) (before after : Outbox) (up : is_up old.raft.ser
   pub timeout_taken : (r : Answer)
       → (new.raft.me ≡ old.raft.me) × (new.raft.size ≡ old.raft.size)
       → OnOk r (TakesAsk old (Some AskTimeout) new before after)
-      → IfErr r (λ cause. EachServer old (λ s. IsRefused cluster_meaning old.raft.size old.raft.me s.raft (Own raft_steps.Timeout) cause))
-      → IfErr r (λ cause. EachServer old (λ s. HidesNothing cluster_meaning old.raft.size old.raft.me s.raft (Own raft_steps.Timeout) cause))
+      → IfErr r (λ cause. EachServer old (λ s. IsRefused cluster_spec old.raft.size old.raft.me s.raft (Own raft_steps.Timeout) cause))
+      → IfErr r (λ cause. EachServer old (λ s. HidesNothing cluster_spec old.raft.size old.raft.me s.raft (Own raft_steps.Timeout) cause))
       → IfErr r (λ cause. Stays (Own raft_steps.Timeout) cause old.raft new.raft)
       → IfErr r (λ cause. DeskAfterRefusal cause old.desk new.desk)
       → OnErr r (after ≡ before)
@@ -318,17 +318,17 @@ stays_of old new h cause other is = is
 
 -- ---- a frame that was read
 
-module _ (old new : ServerView) (before after : Outbox) (bytes : List ℕ) (read : WireMessage State Command) (fits : MessageFits cluster_meaning read) (text : bytes ≡ message_text cluster_meaning read) where
-  means : (x : GroupMessage) → IsGroupFrame cluster_meaning bytes x → MeansGroup read x
-  means (OfLog said) is = subst (λ (r : WireMessage State Command). Means cluster_meaning r said) (one_text cluster_meaning cluster_lawful is.read read is.fits fits (sym is.text ∙ text)) is.means
-  means (Service message) is = subst (λ (r : WireMessage State Command). service_of r ≡ Some message) (one_text cluster_meaning cluster_lawful is.read read is.fits fits (sym is.text ∙ text)) is.means
+module _ (old new : ServerView) (before after : Outbox) (bytes : List ℕ) (read : WireMessage State Command) (fits : MessageFits cluster_spec read) (text : bytes ≡ message_text cluster_spec read) where
+  means : (x : GroupMessage) → IsGroupFrame cluster_spec bytes x → MeansGroup read x
+  means (OfLog said) is = subst (λ (r : WireMessage State Command). Means cluster_spec r said) (one_text cluster_spec cluster_lawful is.read read is.fits fits (sym is.text ∙ text)) is.means
+  means (Service message) is = subst (λ (r : WireMessage State Command). service_of r ≡ Some message) (one_text cluster_spec cluster_lawful is.read read is.fits fits (sym is.text ∙ text)) is.means
 
   read_taken : (r : Answer) → OnOk r (EachServer old (λ s. TakesRead old s read new before after)) → OnOk r (EachServer old (λ s. TakesHanding old s (FrameBytes bytes) new before after))
   read_taken (Ok u) h = λ s is_of x is. h s is_of x (means x is)
   read_taken (Err cause) h = tt
 
-  module _ (up : is_up old.raft.server.mode ≡ true) (found : message_at cluster_meaning bytes ≡ Ok read) where
-    refusal_is : (s : Server) → IsServer old s → handing_refusal old.raft.size old.raft.me s (FrameBytes bytes) ≡ wrong_address old.raft.size old.raft.me read.from read.to
+  module _ (up : is_up old.raft.server.mode ≡ true) (found : message_at cluster_spec bytes ≡ Ok read) where
+    refusal_is : (s : Server) → RefinesServer old s → handing_refusal old.raft.size old.raft.me s (FrameBytes bytes) ≡ wrong_address old.raft.size old.raft.me read.from read.to
     refusal_is s is = ap (λ b. if b then bytes_refusal old.raft.size old.raft.me bytes else Some refusals.Down) (up_of old s is up) ∙ ap (read_refusal old.raft.size old.raft.me) found
 
     read_admitted : (r : Answer) → OnOk r (EachServer old (λ s. wrong_address old.raft.size old.raft.me read.from read.to ≡ None)) → OnOk r (EachServer old (λ s. handing_refusal old.raft.size old.raft.me s (FrameBytes bytes) ≡ None))

@@ -11,11 +11,11 @@ use Rattle.group_model.specs.ClientRequests.{tells, answers, takes_heartbeat}
 use Rattle.group_model.specs.Desks.{Desk}
 use Rattle.group_model.specs.Inputs.{Act}
 use Rattle.group_model.specs.Servers.{Server}
-use Rattle.leader.specs.OpenDesks.{Answered, at_open, on_beat}
+use Rattle.leader.specs.OpenDesks.{Answered, at_open, on_heartbeat}
 use Rattle.leader.specs.GroupActs.{heartbeat_act}
 use Rattle.leader.proofs.Acts.{heartbeats_by_beat}
 use Rattle.server.specs.declared.server.Outbox.{Outbox}
-use Rattle.server.specs.ServerViews.{ServerView, IsServer}
+use Rattle.server.specs.ServerViews.{ServerView, RefinesServer}
 use Rattle.server.specs.Refusals.{HasOpenDesk}
 use Rattle.server.specs.Inner.Acts.{EachServer, DoesAct, EachDoes, client_act}
 use Rattle.server.specs.Inner.Replies.{SendsOne}
@@ -24,14 +24,14 @@ use Rattle.server.proofs.Serving.{act_taken, does_alone}
 
 module _ (old new : ServerView) (before after : Outbox) (client : ℕ) (work : after.work ≡ before.work) where
   module _ (s : Server) where
-    told : (e : Option Refusal) (d : Option Desk) → client_act old client Heartbeat s ≡ Ok (answers old.raft.me client kinds.Heartbeat e d) → IsServer new (record s { desk = d }) →
+    told : (e : Option Refusal) (d : Option Desk) → client_act old client Heartbeat s ≡ Ok (answers old.raft.me client kinds.Heartbeat e d) → RefinesServer new (record s { desk = d }) →
         SendsOne before.frames after.frames (tells old.raft.me client kinds.Heartbeat e) → DoesAct old.raft.size old.raft.me s (client_act old client Heartbeat s) new before after
     told e d is server sent =
         subst (λ (a : Result Act Refusal). DoesAct old.raft.size old.raft.me s a new before after) (sym is)
         (does_alone old.raft.size old.raft.me s new before after (tells old.raft.me client kinds.Heartbeat e ∷ []) d [] server sent (work ∙ sym (append-nil before.work)))
 
     -- it is counted
-    pub beat_moved : Moves (on_beat client) s tt new → SendsOne before.frames after.frames (tells old.raft.me client kinds.Heartbeat None) → DoesAct old.raft.size old.raft.me s (client_act old client Heartbeat s) new before after
+    pub beat_moved : Moves (on_heartbeat client) s tt new → SendsOne before.frames after.frames (tells old.raft.me client kinds.Heartbeat None) → DoesAct old.raft.size old.raft.me s (client_act old client Heartbeat s) new before after
     beat_moved m =
         told None (Some m.after.desk)
         (ap (λ (d : Result Desk Refusal). act_taken (takes_heartbeat old.raft.me client d s.desk)) m.is_open
@@ -41,9 +41,9 @@ module _ (old new : ServerView) (before after : Outbox) (client : ℕ) (work : a
 
   -- the same of each server that a value is
   module _ (r : Result (Unit {0}) NoMemory) where
-    pub beat_told : EachServer old (λ s. HasOpenDesk s) → SameRaft old.raft new.raft → at_open (on_beat client) old.desk ≡ Ok (tt, new.desk) →
+    pub beat_told : EachServer old (λ s. HasOpenDesk s) → SameRaft old.raft new.raft → at_open (on_heartbeat client) old.desk ≡ Ok (tt, new.desk) →
         OnOk r (SendsOne before.frames after.frames (tells old.raft.me client kinds.Heartbeat None)) → OnOk r (EachDoes old (client_act old client Heartbeat) new before after)
     beat_told h same call = by r where
       by : (r : Result (Unit {0}) NoMemory) → OnOk r (SendsOne before.frames after.frames (tells old.raft.me client kinds.Heartbeat None)) → OnOk r (EachDoes old (client_act old client Heartbeat) new before after)
       by (Err x) sent = tt
-      by (Ok u) sent = λ s is. beat_moved s (moves (on_beat client) (beat_keeps client) s old new tt (h s is).leads is same call) sent
+      by (Ok u) sent = λ s is. beat_moved s (moves (on_heartbeat client) (beat_keeps client) s old new tt (h s is).leads is same call) sent

@@ -2,7 +2,7 @@
 -- before, in the same term, and commit did not fall; or it was a candidate, and nothing is newly
 -- applied.
 use Rattle.std.proofs.Common.{◌≡◌, ℕ, ◌≤◌, Bool, true, Ok, List, length, sym, ap, ◌∙◌, arith}
-use Rattle.machine_model.specs.Meaning.{Meaning}
+use Rattle.machine_model.specs.MachineSpec.{MachineSpec}
 use Rattle.raft_model.specs.Messages.{Message}
 use Rattle.raft_model.specs.Rafts.{Raft, RaftTurn, Candidate, is_leader, is_chosen}
 use Rattle.raft_model.specs.Steps.{Input, Arrives, Timeout, Beat, Propose, Compact, Crash, Restart, step}
@@ -13,7 +13,7 @@ pub data LeadsOn {C : Type 0} (s t : Raft C) : Type 0 where
   stays : is_leader s.mode ≡ true → t.term ≡ s.term → t.log ≡ s.log → s.commit ≤ t.commit → LeadsOn s t
   rises : (votes : List Bool) → s.mode ≡ Candidate votes → t.commit ≡ s.commit → LeadsOn s t
 
-module _ {S C : Type 0} (m : Meaning S C) (n i : ℕ) (s : Raft C) where
+module _ {S C : Type 0} (m : MachineSpec S C) (n i : ℕ) (s : Raft C) where
   -- by an input that is no proposal
   led : (input : Input C) (t : Raft C) → ((command : C) → input ≡ Propose command → ⊥) → is_leader t.mode ≡ true → Leading m n i s input t → LeadsOn s t
   led input t other l (goes_on mode term log commit) = stays (sym (ap is_leader mode) ∙ l) term log (omega (arith, commit))

@@ -10,7 +10,7 @@ use Rattle.rows.proofs.Truth.{is_true}
 use Rattle.fsm_tables.specs.Lookups.{lives_on}
 use Rattle.fields_model.specs.StateText.{state}
 use Rattle.fields_model.proofs.RangeLaws.{state_fits}
-use Rattle.cluster_model.specs.Words.{State}
+use Rattle.fsm_model.specs.Words.{State}
 use Rattle.group_model.specs.ClientRequests.{shown, listed}
 use Rattle.group_model.proofs.KeptRows.{rising_kept}
 

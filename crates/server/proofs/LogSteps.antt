@@ -15,19 +15,19 @@ use Rattle.raft_core.specs.declared.input.Input.TheVariants as raft_inputs
 use Rattle.raft_core.specs.RaftView.{RaftView}
 use Rattle.raft_core.specs.Frames.{Means}
 use Rattle.raft_core.specs.Inputs.{handed, Own}
-use Rattle.raft_core.specs.Steps.{Represents, Steps, Takes, TakesMessage}
-use Rattle.raft_core.specs.Refusals.{LackStays, Stays, MessageStays, RefusalShows}
+use Rattle.raft_core.specs.Steps.{Refines, Steps, Takes, TakesMessage}
+use Rattle.raft_core.specs.Refusals.{OutOfMemoryStays, Stays, MessageStays, RefusalShows}
 use Rattle.raft_snapshot.specs.Watching.{SeesStep}
-use Rattle.cluster_model.specs.Words.{State}
-use Rattle.cluster_model.specs.ClusterMachine.{cluster_meaning}
+use Rattle.fsm_model.specs.Words.{State}
+use Rattle.fsm_model.specs.ClusterMachine.{cluster_spec}
 use Rattle.group_model.specs.Messages.{OfLog}
 use Rattle.group_model.specs.Desks.{desk_after}
-use Rattle.group_model.specs.Inputs.{Act, Ask, AskTimeout, AskBeat, AskCompact, AskCrash, AskRestart, input_of}
+use Rattle.group_model.specs.Inputs.{Act, Ask, AskTimeout, AskHeartbeat, AskCompact, AskCrash, AskRestart, input_of}
 use Rattle.group_model.specs.Servers.{Server, logged}
 use Rattle.group_frames.proofs.Sending.{sends_log}
 use Rattle.leader.specs.OpenDesks.{OpenDesk}
 use Rattle.server.specs.declared.server.Outbox.{Outbox}
-use Rattle.server.specs.ServerViews.{ServerView, IsServer, group_desk, IsOfLeader}
+use Rattle.server.specs.ServerViews.{ServerView, RefinesServer, group_desk, IsOfLeader}
 use Rattle.server.specs.Steps.{TakesTurn}
 use Rattle.server.specs.Inner.DeskWatch.{DeskSees}
 use Rattle.server.specs.Inner.LogSteps.{where_leads, DeskAfterRefusal, TakesLogMessage, TakesAsk, log_ask}
@@ -37,18 +37,18 @@ use Rattle.server.proofs.Servers.{mode_is}
 
 -- ---- a step of the log
 
-module _ (old new : ServerView) (seen : Option OpenDesk) (before after : Outbox) (input : raft_steps.Input Command) (s : Server) (is : IsServer old s)
-    (steps : Steps cluster_meaning old.raft s.raft input new.raft before.frames after.frames)
-    (sees : SeesStep cluster_meaning DeskSees s.raft steps.turn.server old.desk seen)
-    (leads : (turn : rafts.RaftTurn Command) → raft_steps.step cluster_meaning old.raft.size old.raft.me s.raft input ≡ Ok turn → is_leader turn.server.mode ≡ true → LeadsOn s.raft turn.server)
+module _ (old new : ServerView) (seen : Option OpenDesk) (before after : Outbox) (input : raft_steps.Input Command) (s : Server) (is : RefinesServer old s)
+    (steps : Steps cluster_spec old.raft s.raft input new.raft before.frames after.frames)
+    (sees : SeesStep cluster_spec DeskSees s.raft steps.turn.server old.desk seen)
+    (leads : (turn : rafts.RaftTurn Command) → raft_steps.step cluster_spec old.raft.size old.raft.me s.raft input ≡ Ok turn → is_leader turn.server.mode ≡ true → LeadsOn s.raft turn.server)
     (closed : new.desk ≡ where_leads (is_leader new.raft.server.mode) seen) where
   gone : (group_desk new.desk ≡ desk_after s.raft steps.turn.server (group_desk old.desk)) × IfSome new.desk (IsOfLeader steps.turn.server)
   gone =
-      let mode : new.raft.server.mode ≡ steps.turn.server.mode = sym (mode_is new.raft steps.turn.server steps.represents) in
+      let mode : new.raft.server.mode ≡ steps.turn.server.mode = sym (mode_is new.raft steps.turn.server steps.refines) in
       goes_on s.raft steps.turn.server old.desk seen new.desk is.led sees (leads steps.turn steps.step) (closed ∙ ap (λ (m : Mode). where_leads (is_leader m) seen) mode)
 
   -- the turn of the definitions
-  pub log_takes : (ask : Option Ask) → after.work ≡ before.work → TakesTurn (logged s (record { ask = ask; desk = s.desk; sent = []; work = [] }) (raft_steps.step cluster_meaning old.raft.size old.raft.me s.raft input)) new before after
+  pub log_takes : (ask : Option Ask) → after.work ≡ before.work → TakesTurn (logged s (record { ask = ask; desk = s.desk; sent = []; work = [] }) (raft_steps.step cluster_spec old.raft.size old.raft.me s.raft input)) new before after
   log_takes ask work =
       let act : Act = record { ask = ask; desk = s.desk; sent = []; work = [] } in
       record {
@@ -58,8 +58,8 @@ module _ (old new : ServerView) (seen : Option OpenDesk) (before after : Outbox)
           work = [];
         };
         is = ap (logged s act) steps.step;
-        server = record { raft = steps.represents; desk = gone.0 ∙ ap (desk_after s.raft steps.turn.server) is.desk; led = gone.1 };
-        sent = sends_log cluster_meaning before.frames after.frames steps.turn.sent steps.sent;
+        server = record { raft = steps.refines; desk = gone.0 ∙ ap (desk_after s.raft steps.turn.server) is.desk; led = gone.1 };
+        sent = sends_log cluster_spec before.frames after.frames steps.turn.sent steps.sent;
         work = work ∙ sym (append-nil before.work);
       }
 
@@ -99,14 +99,14 @@ module _ (old : ServerView) (raft : RaftView State Command) (seen desk : Option 
   -- ---- a message of the log comes
 
   pub hear_takes : (read : WireMessage State Command) (before after : Outbox) (r : Answer)
-      → OnOk r ((s : rafts.Raft Command) → Represents cluster_meaning old.raft s → TakesMessage cluster_meaning old.raft s read raft before.frames after.frames)
-      → OnOk r ((s next : rafts.Raft Command) → Represents cluster_meaning old.raft s → Represents cluster_meaning raft next → SeesStep cluster_meaning DeskSees s next old.desk seen)
+      → OnOk r ((s : rafts.Raft Command) → Refines cluster_spec old.raft s → TakesMessage cluster_spec old.raft s read raft before.frames after.frames)
+      → OnOk r ((s next : rafts.Raft Command) → Refines cluster_spec old.raft s → Refines cluster_spec raft next → SeesStep cluster_spec DeskSees s next old.desk seen)
       → after.work ≡ before.work
-      → OnOk r ((said : Message Command) → Means cluster_meaning read said → TakesLogMessage old said (record { raft = raft; desk = desk }) before after)
+      → OnOk r ((said : Message Command) → Means cluster_spec read said → TakesLogMessage old said (record { raft = raft; desk = desk }) before after)
   hear_takes read before after (Ok u) taken sees work = λ said means s is.
       let steps = taken s.raft is.raft said means in
-      log_takes old (record { raft = raft; desk = desk }) seen before after (raft_steps.Arrives said) s is steps (sees s.raft steps.turn.server is.raft steps.represents)
-      (message_leads cluster_meaning old.raft.size old.raft.me s.raft said) closed None work
+      log_takes old (record { raft = raft; desk = desk }) seen before after (raft_steps.Arrives said) s is steps (sees s.raft steps.turn.server is.raft steps.refines)
+      (message_leads cluster_spec old.raft.size old.raft.me s.raft said) closed None work
   hear_takes read before after (Err cause) taken sees work = tt
 
   pub hear_desk : (r : Answer) → IsLedBy old.raft old.desk
@@ -123,15 +123,15 @@ pub record IsAsked (n me : ℕ) (input : RaftInput) : Type 0 where
   pub ask : Ask
   pub is : log_ask input ≡ Some ask
   pub own : handed input ≡ Own (input_of ask)
-  pub leads : (s : rafts.Raft Command) (turn : rafts.RaftTurn Command) → raft_steps.step cluster_meaning n me s (input_of ask) ≡ Ok turn → is_leader turn.server.mode ≡ true → LeadsOn s turn.server
+  pub leads : (s : rafts.Raft Command) (turn : rafts.RaftTurn Command) → raft_steps.step cluster_spec n me s (input_of ask) ≡ Ok turn → is_leader turn.server.mode ≡ true → LeadsOn s turn.server
 
 asked_by : (n me : ℕ) (input : RaftInput) → log_ask input ≢ None → IsAsked n me input
 asked_by n me (raft_inputs.Frame bytes) asked = absurd (asked refl)
-asked_by n me raft_inputs.Timeout asked = record { ask = AskTimeout; is = refl; own = refl; leads = timeout_step cluster_meaning n me }
-asked_by n me raft_inputs.Beat asked = record { ask = AskBeat; is = refl; own = refl; leads = beat_step cluster_meaning n me }
-asked_by n me raft_inputs.Compact asked = record { ask = AskCompact; is = refl; own = refl; leads = compact_step cluster_meaning n me }
-asked_by n me raft_inputs.Crash asked = record { ask = AskCrash; is = refl; own = refl; leads = crash_step cluster_meaning n me }
-asked_by n me raft_inputs.Restart asked = record { ask = AskRestart; is = refl; own = refl; leads = restart_step cluster_meaning n me }
+asked_by n me raft_inputs.Timeout asked = record { ask = AskTimeout; is = refl; own = refl; leads = timeout_step cluster_spec n me }
+asked_by n me raft_inputs.Beat asked = record { ask = AskHeartbeat; is = refl; own = refl; leads = beat_step cluster_spec n me }
+asked_by n me raft_inputs.Compact asked = record { ask = AskCompact; is = refl; own = refl; leads = compact_step cluster_spec n me }
+asked_by n me raft_inputs.Crash asked = record { ask = AskCrash; is = refl; own = refl; leads = crash_step cluster_spec n me }
+asked_by n me raft_inputs.Restart asked = record { ask = AskRestart; is = refl; own = refl; leads = restart_step cluster_spec n me }
 
 down_leads_not : (mode : Mode) → is_up mode ≡ false → is_leader mode ≡ false
 down_leads_not rafts.Down h = refl
@@ -139,7 +139,7 @@ down_leads_not rafts.Follower h = absurd (cc)
 down_leads_not (rafts.Candidate votes) h = absurd (cc)
 down_leads_not (rafts.Leader next match) h = absurd (cc)
 
-lack_is_down : (old raft : RaftView State Command) (input : RaftInput) → log_ask input ≢ None → LackStays (handed input) old raft → is_leader raft.server.mode ≡ false
+lack_is_down : (old raft : RaftView State Command) (input : RaftInput) → log_ask input ≢ None → OutOfMemoryStays (handed input) old raft → is_leader raft.server.mode ≡ false
 lack_is_down old raft (raft_inputs.Frame bytes) asked left = absurd (asked refl)
 lack_is_down old raft raft_inputs.Timeout asked left = ap (λ (t : rafts.Raft Command). is_leader t.mode) left.0
 lack_is_down old raft raft_inputs.Beat asked left = ap (λ (t : rafts.Raft Command). is_leader t.mode) left.0
@@ -154,15 +154,15 @@ module _ (old : ServerView) (raft : RaftView State Command) (seen desk : Option 
   by = asked_by old.raft.size old.raft.me input asked
 
   pub own_takes : (before after : Outbox) (r : Answer)
-      → OnOk r ((s : rafts.Raft Command) → Represents cluster_meaning old.raft s → Takes cluster_meaning old.raft s (handed input) raft before.frames after.frames)
-      → OnOk r ((s next : rafts.Raft Command) → Represents cluster_meaning old.raft s → Represents cluster_meaning raft next → SeesStep cluster_meaning DeskSees s next old.desk seen)
+      → OnOk r ((s : rafts.Raft Command) → Refines cluster_spec old.raft s → Takes cluster_spec old.raft s (handed input) raft before.frames after.frames)
+      → OnOk r ((s next : rafts.Raft Command) → Refines cluster_spec old.raft s → Refines cluster_spec raft next → SeesStep cluster_spec DeskSees s next old.desk seen)
       → after.work ≡ before.work
       → OnOk r (TakesAsk old (log_ask input) (record { raft = raft; desk = desk }) before after)
   own_takes before after (Ok u) taken sees work =
       subst (λ a. TakesAsk old a (record { raft = raft; desk = desk }) before after) (sym by.is)
       (λ s is.
-      let steps = subst (λ h. Takes cluster_meaning old.raft s.raft h raft before.frames after.frames) by.own (taken s.raft is.raft) (input_of by.ask) refl in
-      log_takes old (record { raft = raft; desk = desk }) seen before after (input_of by.ask) s is steps (sees s.raft steps.turn.server is.raft steps.represents) (by.leads s.raft) closed (Some by.ask) work)
+      let steps = subst (λ h. Takes cluster_spec old.raft s.raft h raft before.frames after.frames) by.own (taken s.raft is.raft) (input_of by.ask) refl in
+      log_takes old (record { raft = raft; desk = desk }) seen before after (input_of by.ask) s is steps (sees s.raft steps.turn.server is.raft steps.refines) (by.leads s.raft) closed (Some by.ask) work)
   own_takes before after (Err cause) taken sees work = tt
 
   pub own_desk : (r : Answer) → IsLedBy old.raft old.desk

@@ -17,13 +17,13 @@ use Rattle.raft_model.specs.Steps as raft_steps
 use Rattle.raft_model.specs.Rafts.{extended, is_leader}
 use Rattle.raft_model.specs.Steps.{admission_refusal}
 use Rattle.raft_core.specs.RaftView.{SameRaft}
-use Rattle.cluster_model.specs.Words.{State}
-use Rattle.cluster_model.specs.ClusterMachine.{cluster_meaning}
+use Rattle.fsm_model.specs.Words.{State}
+use Rattle.fsm_model.specs.ClusterMachine.{cluster_spec}
 use Rattle.group_model.specs.Messages.{BetweenServers, Answers}
 use Rattle.group_model.specs.Order.{Picked}
 use Rattle.group_model.specs.Acceptance.{Accepted, keeps_some}
 use Rattle.group_model.specs.Brokers.{outstanding}
-use Rattle.group_model.specs.Desks.{Desk, QueuedPlan, whole_state}
+use Rattle.group_model.specs.Desks.{Desk, QueuedPlan, projected_state}
 use Rattle.group_model.specs.Inputs.{Act, Ask, PlanTurn, input_of}
 use Rattle.group_model.specs.Servers.{Server, ServerTurn, open_desk, at_desk, asks_log, logged, done}
 use Rattle.group_model.specs.Plans.{after_accept, told_result, told_refusal, plan_command, plan_turn}
@@ -34,7 +34,7 @@ use Rattle.leader.proofs.Acts.{plan_turns_by_verdict}
 use Rattle.leader.specs.declared.judged.JudgedPlan.{JudgedPlan}
 use Rattle.leader.specs.Verdicts.{Judged, judged_by, verdict_for, once_picked, on_plan_turn}
 use Rattle.server.specs.declared.server.Outbox.{Outbox}
-use Rattle.server.specs.ServerViews.{ServerView, IsServer, SameServer}
+use Rattle.server.specs.ServerViews.{ServerView, RefinesServer, SameServer}
 use Rattle.server.specs.Steps.{TakesTurn}
 use Rattle.server.specs.Refusals.{HasOpenDesk}
 use Rattle.server.specs.Inner.Acts.{EachServer, Serves, DoesAct, EachDoes, IsProposed, WhyNotProposed, act_of}
@@ -47,7 +47,7 @@ use Rattle.server.proofs.Refusing.{verdict_rises}
 
 -- ---- what is kept of a plan
 
-module _ (old new : ServerView) (before after : Outbox) (from : ℕ) (p : AcceptedPlan) (a : Accepted) (w : QueuedPlan) (k : KeptOf from p a w) (s : Server) (is : IsServer old s) (h : HasOpenDesk s) (work : after.work ≡ before.work) where
+module _ (old new : ServerView) (before after : Outbox) (from : ℕ) (p : AcceptedPlan) (a : Accepted) (w : QueuedPlan) (k : KeptOf from p a w) (s : Server) (is : RefinesServer old s) (h : HasOpenDesk s) (work : after.work ≡ before.work) where
   open_one : (o : OpenDesk) × (old.desk ≡ Some o)
   open_one = open_of old.desk (subst (λ (d : Option Desk). is_some d ≡ true) (sym is.desk) h.is_open)
 
@@ -69,11 +69,11 @@ module _ (old new : ServerView) (before after : Outbox) (from : ℕ) (p : Accept
   refusal_is : (e : Refusal) → BetweenServers old.raft.me from (Answers (Refused (asked.Submit p.eval p.token) (reason_of e))) ≡ told_refusal old.raft.me w e
   refusal_is e = rw (← k.sender, k.plan) refl
 
-  open_server : IsServer new s → IsServer new (record s { desk = Some one })
-  open_server = subst (λ (d : Option Desk). IsServer new (record s { desk = d })) was
+  open_server : RefinesServer new s → RefinesServer new (record s { desk = Some one })
+  open_server = subst (λ (d : Option Desk). RefinesServer new (record s { desk = d })) was
 
   -- nothing is
-  pub keeps_none : keeps_some a ≡ false → IsServer new s →
+  pub keeps_none : keeps_some a ≡ false → RefinesServer new s →
       SendsOne before.frames after.frames (BetweenServers old.raft.me from (Answers (result_with p (length s.raft.log) a))) → DoesAct old.raft.size old.raft.me s (settling old judged s) new before after
   keeps_none none server sent =
       let said = rw (told_is (length s.raft.log)) at sent in
@@ -86,19 +86,19 @@ module _ (old new : ServerView) (before after : Outbox) (from : ℕ) (p : Accept
     kept_proposed proposed sent =
         let said = rw (told_is (suc (length s.raft.log))) at sent in
         let q : IsProposed s (plan_command w.plan a) new = subst (λ (x : AcceptedPlan). IsProposed s (commands.Plan x) new) k.plan proposed in
-        let free : admission_refusal cluster_meaning s.raft (plan_command w.plan a) ≡ None = q.admitted in
-        let server : IsServer new (record { raft = extended s.raft (plan_command w.plan a); desk = Some one }) = subst (λ (d : Option Desk). IsServer new (record { raft = extended s.raft (plan_command w.plan a); desk = d })) was q.server in
+        let free : admission_refusal cluster_spec s.raft (plan_command w.plan a) ≡ None = q.admitted in
+        let server : RefinesServer new (record { raft = extended s.raft (plan_command w.plan a); desk = Some one }) = subst (λ (d : Option Desk). RefinesServer new (record { raft = extended s.raft (plan_command w.plan a); desk = d })) was q.server in
         rw (settling_is, some, free) (does_proposed old.raft.size old.raft.me s new before after (plan_command w.plan a) (told_result old.raft.me w (suc (length s.raft.log)) a ∷ []) (Some one) q.leads q.admitted server said work)
 
-    refused_as : (e : Refusal) → admission_refusal cluster_meaning s.raft (commands.Plan p) ≡ Some e → IsServer new s →
+    refused_as : (e : Refusal) → admission_refusal cluster_spec s.raft (commands.Plan p) ≡ Some e → RefinesServer new s →
         SendsOne before.frames after.frames (BetweenServers old.raft.me from (Answers (Refused (asked.Submit p.eval p.token) (reason_of e)))) → DoesAct old.raft.size old.raft.me s (settling old judged s) new before after
     refused_as e why server sent =
         let said = rw (refusal_is e) at sent in
-        let because : admission_refusal cluster_meaning s.raft (plan_command w.plan a) ≡ Some e = subst (λ (x : AcceptedPlan). admission_refusal cluster_meaning s.raft (commands.Plan x) ≡ Some e) k.plan why in
+        let because : admission_refusal cluster_spec s.raft (plan_command w.plan a) ≡ Some e = subst (λ (x : AcceptedPlan). admission_refusal cluster_spec s.raft (commands.Plan x) ≡ Some e) k.plan why in
         rw (settling_is, some, because) (does_alone old.raft.size old.raft.me s new before after (told_refusal old.raft.me w e ∷ []) (Some one) [] (open_server server) said (work ∙ sym (append-nil before.work)))
 
     -- the log refuses it
-    pub kept_refused : (e : Refusal) → WhyNotProposed s.raft (commands.Plan p) e → e ≢ refusals.NoMemory → IsServer new s →
+    pub kept_refused : (e : Refusal) → WhyNotProposed s.raft (commands.Plan p) e → e ≢ refusals.NoMemory → RefinesServer new s →
         SendsOne before.frames after.frames (BetweenServers old.raft.me from (Answers (Refused (asked.Submit p.eval p.token) (reason_of e)))) → DoesAct old.raft.size old.raft.me s (settling old judged s) new before after
     kept_refused e why other = refused_as e (refused_why s.raft (commands.Plan p) e h.leads other why)
 
@@ -161,11 +161,11 @@ done_same : (n me : ℕ) (s : Server) (d : Option Desk) (a : Act) → done n me 
 done_same n me s d a = by a.ask where
   by : (ask : Option Ask) → asks_log n me (record s { desk = d }) a ask ≡ asks_log n me s a ask
   by None = refl
-  by (Some ask) = logged_same s d a (raft_steps.step cluster_meaning n me s.raft (input_of ask))
+  by (Some ask) = logged_same s d a (raft_steps.step cluster_spec n me s.raft (input_of ask))
 
-module _ (old mid : ServerView) (s : Server) (is : IsServer old s) (h : HasOpenDesk s) (same : SameRaft old.raft mid.raft) (j : Option Judged) (call : at_open (on_plan_turn (whole_state s.raft)) old.desk ≡ Ok (j, mid.desk)) where
-  turned : Moves (on_plan_turn (whole_state s.raft)) s j mid
-  turned = moves (on_plan_turn (whole_state s.raft)) (plan_turn_keeps (whole_state s.raft)) s old mid j h.leads is same call
+module _ (old mid : ServerView) (s : Server) (is : RefinesServer old s) (h : HasOpenDesk s) (same : SameRaft old.raft mid.raft) (j : Option Judged) (call : at_open (on_plan_turn (projected_state s.raft)) old.desk ≡ Ok (j, mid.desk)) where
+  turned : Moves (on_plan_turn (projected_state s.raft)) s j mid
+  turned = moves (on_plan_turn (projected_state s.raft)) (plan_turn_keeps (projected_state s.raft)) s old mid j h.leads is same call
 
   abbrev left : Desk
   left = turned.after.desk
@@ -173,7 +173,7 @@ module _ (old mid : ServerView) (s : Server) (is : IsServer old s) (h : HasOpenD
   act_is : act_of old PlanTurn s ≡ Ok (judged_act old.raft.me s.raft left j)
   act_is =
       let o = turned.before in
-      let pair : once_picked (whole_state s.raft) o (first_plan o.desk.plans) ≡ (j, turned.after) = same_answer turned.answers in
+      let pair : once_picked (projected_state s.raft) o (first_plan o.desk.plans) ≡ (j, turned.after) = same_answer turned.answers in
       ap (λ (d : Result Desk Refusal). at_desk d (λ d. Ok (plan_turn old.raft.me s.raft d))) turned.is_open
       ∙ ap act_taken (plan_turns_by_verdict old.raft.me s.raft o)
       ∙ ap (λ (t : Option Judged × OpenDesk). act_taken (judged_act old.raft.me s.raft t.1.desk t.0)) pair
@@ -201,7 +201,7 @@ module _ (old mid : ServerView) (s : Server) (is : IsServer old s) (h : HasOpenD
 
 -- the same of each server that a value is
 module _ (old mid new : ServerView) (before after : Outbox) (answer : Option JudgedPlan) (h : EachServer old (λ s. HasOpenDesk s)) (same : SameRaft old.raft mid.raft)
-    (call : EachServer old (λ s. at_open (on_plan_turn (whole_state s.raft)) old.desk ≡ Ok (option_map judged_by answer, mid.desk))) where
+    (call : EachServer old (λ s. at_open (on_plan_turn (projected_state s.raft)) old.desk ≡ Ok (option_map judged_by answer, mid.desk))) where
   pub plan_settled : (j : JudgedPlan) → answer ≡ Some j → EachDoes mid (settling mid (judged_by j)) new before after → EachDoes old (act_of old PlanTurn) new before after
   plan_settled j some settled s is =
       plan_settles old mid s is (h s is) same (option_map judged_by answer) (call s is) (judged_by j) (ap (λ (x : Option JudgedPlan). option_map judged_by x) some) same.me same.size new before after settled

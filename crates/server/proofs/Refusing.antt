@@ -15,7 +15,7 @@ use Rattle.rows.specs.declared.command.AcceptedPlace.{AcceptedPlace}
 use Rattle.rows.specs.declared.refusal.Refusal.{Refusal}
 use Rattle.rows.specs.declared.refusal.Refusal.TheVariants as refusals
 use Rattle.rows.proofs.RisingLaws.{keeps_rising}
-use Rattle.cluster_model.specs.Words.{State, job_of, node_of}
+use Rattle.fsm_model.specs.Words.{State, job_of, node_of}
 use Rattle.group_model.specs.Acceptance.{Accepted, NODES, kept_stops, claimed, kept_where, with_kept, on, keep_places, keep_upto, keep, is_eval_of, accept_of}
 use Rattle.leader.specs.Verdicts.{verdict_for}
 

@@ -21,7 +21,7 @@ use Rattle.rows.specs.Reasons.{reason_of}
 use Rattle.rows.specs.Changes.{change_of}
 use Rattle.raft_model.specs.Rafts.{extended}
 use Rattle.raft_core.specs.RaftView.{RaftView, SameRaft}
-use Rattle.cluster_model.specs.Words.{State}
+use Rattle.fsm_model.specs.Words.{State}
 use Rattle.group_model.specs.Messages.{BetweenServers, Asks, Answers}
 use Rattle.group_model.specs.Brokers.{deliver, with_ack}
 use Rattle.group_model.specs.Desks.{Desk, applied_state}
@@ -32,7 +32,7 @@ use Rattle.leader.specs.OpenDesks.{OpenDesk, Answered, at_open, with_broker, onc
 use Rattle.leader.specs.GroupActs.{take_act, nack_act, submit_act, finish_act, proposes_at}
 use Rattle.leader.proofs.Acts.{takes_by_deliver, nacks_by_nack, submits_by_submit, finishes_by_ack}
 use Rattle.server.specs.declared.server.Outbox.{Outbox}
-use Rattle.server.specs.ServerViews.{ServerView, IsServer, SameServer}
+use Rattle.server.specs.ServerViews.{ServerView, RefinesServer, SameServer}
 use Rattle.server.specs.Refusals.{HasOpenDesk}
 use Rattle.server.specs.Inner.Acts.{EachServer, DoesAct, EachDoes, act_of, asks_of, IsProposed, WhyNotProposed, request_act}
 use Rattle.server.specs.Inner.Replies.{SendsOne, HasPair}
@@ -75,7 +75,7 @@ module _ (old new : ServerView) (before after : Outbox) (s : Server) (from : ℕ
   finish_is o is_open = ap (λ (d : Result Desk Refusal). act_taken (finishes old.raft.me s.raft from id token outcome d s.desk)) is_open ∙ ap act_taken (finishes_by_ack old.raft.me from s.raft id token outcome o)
 
   -- the log takes the status, and the pair is done with
-  pub finish_acked : (mid : ServerView) → IsServer old s → IsProposed s (commands.EvalStatus id (change_of outcome)) mid → new.raft ≡ mid.raft → at_open (on_ack id token) mid.desk ≡ Ok (tt, new.desk) → after ≡ before →
+  pub finish_acked : (mid : ServerView) → RefinesServer old s → IsProposed s (commands.EvalStatus id (change_of outcome)) mid → new.raft ≡ mid.raft → at_open (on_ack id token) mid.desk ≡ Ok (tt, new.desk) → after ≡ before →
       DoesAct old.raft.size old.raft.me s (request_act old from (requests.Finish id token outcome) s) new before after
   finish_acked mid is p raft call nothing =
       let c = commands.EvalStatus id (change_of outcome) in
@@ -91,7 +91,7 @@ module _ (old new : ServerView) (before after : Outbox) (s : Server) (from : ℕ
       (does_proposed old.raft.size old.raft.me s new before after c [] (Some m.after.desk) p.leads p.admitted m.server (nothing_sent before after nothing) (ap (λ (x : Outbox). x.work) nothing))
 
   -- the log refuses it
-  finish_refused : (e : Refusal) → HasOpenDesk s → IsServer old s → HasPair id token old.desk → WhyNotProposed s.raft (commands.EvalStatus id (change_of outcome)) e → e ≢ refusals.NoMemory → IsServer new s → after.work ≡ before.work →
+  finish_refused : (e : Refusal) → HasOpenDesk s → RefinesServer old s → HasPair id token old.desk → WhyNotProposed s.raft (commands.EvalStatus id (change_of outcome)) e → e ≢ refusals.NoMemory → RefinesServer new s → after.work ≡ before.work →
       SendsOne before.frames after.frames (BetweenServers old.raft.me from (Answers (Refused (asked.Finish id token) (reason_of e)))) → DoesAct old.raft.size old.raft.me s (request_act old from (requests.Finish id token outcome) s) new before after
   finish_refused e h is pair why other server work sent =
       let o = open_of old.desk (subst (λ (d : Option Desk). is_some d ≡ true) (sym is.desk) h.is_open) in
@@ -104,7 +104,7 @@ module _ (old new : ServerView) (before after : Outbox) (s : Server) (from : ℕ
       ∙ ap (λ (r : Option Refusal). act_taken (proposes_at acked c refusing r)) (refused_why s.raft c e h.leads other why) in
       subst (λ (act : Result Act Refusal). DoesAct old.raft.size old.raft.me s act new before after) (sym act)
       (does_alone old.raft.size old.raft.me s new before after (BetweenServers old.raft.me from (Answers (Refused (asked.Finish id token) (reason_of e))) ∷ []) (Some o.0.desk) []
-      (subst (λ (d : Option Desk). IsServer new (record s { desk = d })) (desk_at old s is o.0 o.1) server) sent (work ∙ sym (append-nil before.work)))
+      (subst (λ (d : Option Desk). RefinesServer new (record s { desk = d })) (desk_at old s is o.0 o.1) server) sent (work ∙ sym (append-nil before.work)))
 
 pub finish_declined : (old new : ServerView) (before after : Outbox) (from : ℕ) (id : EvalId) (token : Token) (outcome : EvalOutcome) (e : Refusal) (r : Result (Unit {0}) NoMemory) → EachServer old (λ s. HasOpenDesk s) → HasPair id token old.desk →
     EachServer old (λ s. WhyNotProposed s.raft (commands.EvalStatus id (change_of outcome)) e) → e ≢ refusals.NoMemory → SameServer old new → after.work ≡ before.work →
@@ -129,7 +129,7 @@ module _ (old new : ServerView) (before after : Outbox) (s : Server) (from : ℕ
       (does_nothing old.raft.size old.raft.me s new before after (Some m.after.desk) m.server nothing)
 
   -- the desk refuses the plan
-  submit_refused : (e : Refusal) → Holds (on_submit from (applied_state s.raft) p) s e → IsServer new s → after.work ≡ before.work →
+  submit_refused : (e : Refusal) → Holds (on_submit from (applied_state s.raft) p) s e → RefinesServer new s → after.work ≡ before.work →
       SendsOne before.frames after.frames (BetweenServers old.raft.me from (Answers (Refused (asked.Submit p.eval p.token) (reason_of e)))) → DoesAct old.raft.size old.raft.me s (request_act old from (requests.Submit p) s) new before after
   submit_refused e k server work sent =
       let o = k.desk in
@@ -137,7 +137,7 @@ module _ (old new : ServerView) (before after : Outbox) (s : Server) (from : ℕ
       ∙ ap (λ (r : Answered (Unit {0})). act_taken (submit_act old.raft.me from p o r)) k.answers in
       subst (λ (act : Result Act Refusal). DoesAct old.raft.size old.raft.me s act new before after) (sym act)
       (does_alone old.raft.size old.raft.me s new before after (BetweenServers old.raft.me from (Answers (Refused (asked.Submit p.eval p.token) (reason_of e))) ∷ []) (Some o.desk) []
-      (subst (λ (d : Option Desk). IsServer new (record s { desk = d })) k.was server) sent (work ∙ sym (append-nil before.work)))
+      (subst (λ (d : Option Desk). RefinesServer new (record s { desk = d })) k.was server) sent (work ∙ sym (append-nil before.work)))
 
 pub submit_declined : (old new : ServerView) (before after : Outbox) (from : ℕ) (p : Plan) (e : Refusal) (r : Result (Unit {0}) NoMemory) → EachServer old (λ s. HasOpenDesk s) →
     EachServer old (λ s. at_open (on_submit from (applied_state s.raft) p) old.desk ≡ Err e) → SameServer old new → after.work ≡ before.work →

@@ -4,31 +4,31 @@ use Rattle.std.specs.Prelude.{IfSome, is_some}
 use Rattle.rows.specs.declared.command.Command.{Command}
 use Rattle.raft_model.specs.Rafts.{Raft, is_up, is_leader, crashed}
 use Rattle.raft_core.specs.RaftView.{RaftView, SameRaft, IsCrashOf}
-use Rattle.raft_core.specs.Steps.{Represents}
+use Rattle.raft_core.specs.Steps.{Refines}
 use Rattle.raft_core.proofs.Fills.{same_fills, crash_fills}
-use Rattle.cluster_model.specs.Words.{State}
-use Rattle.cluster_model.specs.ClusterMachine.{cluster_meaning}
+use Rattle.fsm_model.specs.Words.{State}
+use Rattle.fsm_model.specs.ClusterMachine.{cluster_spec}
 use Rattle.group_model.specs.Desks.{Desk}
 use Rattle.group_model.specs.Servers.{Server, open_desk}
 use Rattle.leader.specs.OpenDesks.{OpenDesk}
-use Rattle.server.specs.ServerViews.{ServerView, IsServer, SameServer, IsOfLeader, crashed_server, group_desk}
+use Rattle.server.specs.ServerViews.{ServerView, RefinesServer, SameServer, IsOfLeader, crashed_server, group_desk}
 use Rattle.server.specs.Refusals.{HasOpenDesk}
 use Rattle.server.specs.Inner.Acts.{Serves}
 
 -- ---- the only lemmas that know how a value stands for a server
 
-pub mode_is : (view : RaftView State Command) (s : Raft Command) → Represents cluster_meaning view s → s.mode ≡ view.server.mode
+pub mode_is : (view : RaftView State Command) (s : Raft Command) → Refines cluster_spec view s → s.mode ≡ view.server.mode
 mode_is view s r = ap (λ (x : Raft Command). x.mode) r.is
 
-pub same_raft : (old new : RaftView State Command) (s : Raft Command) → SameRaft old new → Represents cluster_meaning old s → Represents cluster_meaning new s
-same_raft old new s same r = same_fills cluster_meaning old new same s r
+pub same_raft : (old new : RaftView State Command) (s : Raft Command) → SameRaft old new → Refines cluster_spec old s → Refines cluster_spec new s
+same_raft old new s same r = same_fills cluster_spec old new same s r
 
-crashed_raft : (old new : RaftView State Command) (s : Raft Command) → IsCrashOf old new → Represents cluster_meaning old s → Represents cluster_meaning new (crashed s)
-crashed_raft old new s lost r = crash_fills cluster_meaning old new lost s r
+crashed_raft : (old new : RaftView State Command) (s : Raft Command) → IsCrashOf old new → Refines cluster_spec old s → Refines cluster_spec new (crashed s)
+crashed_raft old new s lost r = crash_fills cluster_spec old new lost s r
 
 -- ---- what a value shows of each
 
-module _ (view : ServerView) (s : Server) (is : IsServer view s) where
+module _ (view : ServerView) (s : Server) (is : RefinesServer view s) where
   pub up_of : is_up view.raft.server.mode ≡ true → is_up s.raft.mode ≡ true
   up_of up = ap is_up (mode_is view.raft s.raft is.raft) ∙ up
 
@@ -53,7 +53,7 @@ module _ (view : ServerView) (s : Server) (is : IsServer view s) where
 
 -- ---- from one value to the next
 
-pub same_is : (old new : ServerView) (s : Server) → SameServer old new → IsServer old s → IsServer new s
+pub same_is : (old new : ServerView) (s : Server) → SameServer old new → RefinesServer old s → RefinesServer new s
 same_is old new s same is = record {
   raft = same_raft old.raft new.raft s.raft same.raft is.raft;
   desk = ap group_desk same.desk ∙ is.desk;
@@ -66,7 +66,7 @@ same_then old mid new first next = record {
   desk = next.desk ∙ first.desk;
 }
 
-pub crashed_is : (old new : ServerView) (s : Server) → IsCrashOf old.raft new.raft → new.desk ≡ None → IsServer old s → IsServer new (crashed_server s)
+pub crashed_is : (old new : ServerView) (s : Server) → IsCrashOf old.raft new.raft → new.desk ≡ None → RefinesServer old s → RefinesServer new (crashed_server s)
 crashed_is old new s lost closed is = record {
   raft = crashed_raft old.raft new.raft s.raft lost is.raft;
   desk = ap group_desk closed;

@@ -10,7 +10,7 @@ use Rattle.wire.specs.Frames.{Frame}
 use Rattle.raft_model.specs.Rafts.{Raft, RaftTurn, Mode, Down, Follower, Candidate, Leader, is_up, is_leader, silent, extended}
 use Rattle.raft_model.specs.Steps as raft_steps
 use Rattle.raft_core.specs.Inner.Turns.{KeepsFront}
-use Rattle.cluster_model.specs.ClusterMachine.{cluster_meaning}
+use Rattle.fsm_model.specs.ClusterMachine.{cluster_spec}
 use Rattle.group_model.specs.Messages.{GroupMessage, Service, ServiceMessage}
 use Rattle.group_model.specs.Desks.{Desk, applied_state, after_entries, desk_after}
 use Rattle.group_model.specs.Inputs.{Act, AskPropose, rests}
@@ -18,7 +18,7 @@ use Rattle.group_model.specs.Servers.{Server, logged}
 use Rattle.group_frames.specs.GroupFrames.{SendsGroup}
 use Rattle.group_frames.proofs.Sending.{sends_nothing}
 use Rattle.server.specs.declared.server.Outbox.{Outbox}
-use Rattle.server.specs.ServerViews.{ServerView, IsServer}
+use Rattle.server.specs.ServerViews.{ServerView, RefinesServer}
 use Rattle.server.specs.Inner.Acts.{DoesAct, WhyNotProposed}
 
 pub leader_up : (mode : Mode) → is_leader mode ≡ true → is_up mode ≡ true
@@ -45,7 +45,7 @@ act_taken a = Ok a
 same_refusal : {A : Type 0} {x y : Refusal} → (let r : Result A Refusal = Err x in r ≡ Err y) → x ≡ y
 same_refusal h = cc
 
-why_not : (s : Raft Command) (c : Command) (cause : Refusal) → cause ≢ refusals.NoMemory → WhyNotProposed s c cause → raft_steps.proposes cluster_meaning s c ≡ Err cause
+why_not : (s : Raft Command) (c : Command) (cause : Refusal) → cause ≢ refusals.NoMemory → WhyNotProposed s c cause → raft_steps.proposes cluster_spec s c ≡ Err cause
 why_not s c refusals.NoMemory other h = absurd (other refl)
 why_not s c _ other h = h
 
@@ -54,20 +54,20 @@ why_by None turn cause h = absurd cc
 why_by (Some r) turn cause h = ap (λ (x : Refusal). Some x) (same_refusal h)
 
 -- a refusal but want of memory is that of the definitions
-pub refused_why : (s : Raft Command) (c : Command) (cause : Refusal) → is_leader s.mode ≡ true → cause ≢ refusals.NoMemory → WhyNotProposed s c cause → raft_steps.admission_refusal cluster_meaning s c ≡ Some cause
+pub refused_why : (s : Raft Command) (c : Command) (cause : Refusal) → is_leader s.mode ≡ true → cause ≢ refusals.NoMemory → WhyNotProposed s c cause → raft_steps.admission_refusal cluster_spec s c ≡ Some cause
 refused_why s c cause leads other h =
     let why = why_not s c cause other h in
-    why_by (raft_steps.admission_refusal cluster_meaning s c) (silent (extended s c)) cause (rw leads at why)
+    why_by (raft_steps.admission_refusal cluster_spec s c) (silent (extended s c)) cause (rw leads at why)
 
 -- ---- acts that are done
 
-pub nothing_sent : (before after : Outbox) → after ≡ before → SendsGroup cluster_meaning before.frames after.frames []
-nothing_sent before after nothing = subst (λ (o : Outbox). SendsGroup cluster_meaning before.frames o.frames []) (sym nothing) (sends_nothing cluster_meaning before.frames)
+pub nothing_sent : (before after : Outbox) → after ≡ before → SendsGroup cluster_spec before.frames after.frames []
+nothing_sent before after nothing = subst (λ (o : Outbox). SendsGroup cluster_spec before.frames o.frames []) (sym nothing) (sends_nothing cluster_spec before.frames)
 
 module _ (n me : ℕ) (s : Server) (new : ServerView) (before after : Outbox) where
   -- nothing is asked of the log
-  pub does_alone : (services : List ServiceMessage) (d : Option Desk) (work : List Work) → IsServer new (record s { desk = d }) →
-      SendsGroup cluster_meaning before.frames after.frames (map Service services) → after.work ≡ before.work ++ work →
+  pub does_alone : (services : List ServiceMessage) (d : Option Desk) (work : List Work) → RefinesServer new (record s { desk = d }) →
+      SendsGroup cluster_spec before.frames after.frames (map Service services) → after.work ≡ before.work ++ work →
       DoesAct n me s (Ok (record { ask = None; desk = d; sent = services; work = work })) new before after
   does_alone services d work server sent out = record {
     turn = record { server = record s { desk = d }; sent = map Service services; work = work };
@@ -77,16 +77,16 @@ module _ (n me : ℕ) (s : Server) (new : ServerView) (before after : Outbox) wh
     work = out;
   }
 
-  pub does_nothing : (d : Option Desk) → IsServer new (record s { desk = d }) → after ≡ before → DoesAct n me s (Ok (rests d)) new before after
+  pub does_nothing : (d : Option Desk) → RefinesServer new (record s { desk = d }) → after ≡ before → DoesAct n me s (Ok (rests d)) new before after
   does_nothing d server nothing = does_alone [] d [] server (nothing_sent before after nothing) (ap (λ (o : Outbox). o.work) nothing ∙ sym (append-nil before.work))
 
   -- a command is appended
-  pub does_proposed : (c : Command) (services : List ServiceMessage) (d : Option Desk) → is_leader s.raft.mode ≡ true → raft_steps.admission_refusal cluster_meaning s.raft c ≡ None →
-      IsServer new (record { raft = extended s.raft c; desk = d }) → SendsGroup cluster_meaning before.frames after.frames (map Service services) → after.work ≡ before.work →
+  pub does_proposed : (c : Command) (services : List ServiceMessage) (d : Option Desk) → is_leader s.raft.mode ≡ true → raft_steps.admission_refusal cluster_spec s.raft c ≡ None →
+      RefinesServer new (record { raft = extended s.raft c; desk = d }) → SendsGroup cluster_spec before.frames after.frames (map Service services) → after.work ≡ before.work →
       DoesAct n me s (Ok (record { ask = Some (AskPropose c); desk = d; sent = services; work = [] })) new before after
   does_proposed c services d leads admitted server sent out =
       let up : is_up s.raft.mode ≡ true = leader_up s.raft.mode leads in
-      let step : raft_steps.step cluster_meaning n me s.raft (raft_steps.Propose c) ≡ Ok (silent (extended s.raft c)) = rw (up, leads, admitted) refl in
+      let step : raft_steps.step cluster_spec n me s.raft (raft_steps.Propose c) ≡ Ok (silent (extended s.raft c)) = rw (up, leads, admitted) refl in
       let act : Act = record { ask = Some (AskPropose c); desk = d; sent = services; work = [] } in
       record {
         turn = record { server = record { raft = extended s.raft c; desk = desk_after s.raft (extended s.raft c) d }; sent = map Service services; work = [] };
@@ -98,5 +98,5 @@ module _ (n me : ℕ) (s : Server) (new : ServerView) (before after : Outbox) wh
 
 -- ---- want of memory
 
-pub front_of : (before after : List Frame) (messages : List GroupMessage) → SendsGroup cluster_meaning before after messages → KeepsFront before after
+pub front_of : (before after : List Frame) (messages : List GroupMessage) → SendsGroup cluster_spec before after messages → KeepsFront before after
 front_of before after messages s = rw s.added (take-append_seam before s.frames)

@@ -13,12 +13,12 @@ use Rattle.rows.specs.declared.refusal.Refusal.TheVariants as refusals
 use Rattle.raft_model.specs.Rafts.{is_leader, crashed}
 use Rattle.raft_model.specs.Steps as raft_steps
 use Rattle.raft_core.specs.RaftView.{SameRaft}
-use Rattle.cluster_model.specs.Words.{State}
-use Rattle.cluster_model.specs.ClusterMachine.{cluster_meaning}
-use Rattle.group_model.specs.BeatCounts.{expiry_refusal, expiry_refusal_of}
+use Rattle.fsm_model.specs.Words.{State}
+use Rattle.fsm_model.specs.ClusterMachine.{cluster_spec}
+use Rattle.group_model.specs.HeartbeatCounts.{expiry_refusal, expiry_refusal_of}
 use Rattle.group_model.specs.Blocked.{first_due}
-use Rattle.group_model.specs.Expiry.{BeatCount, beat_count_of}
-use Rattle.group_model.specs.Desks.{Desk, applied_state, whole_state}
+use Rattle.group_model.specs.Expiry.{HeartbeatCount, heartbeat_count_of}
+use Rattle.group_model.specs.Desks.{Desk, applied_state, projected_state}
 use Rattle.group_model.specs.Inputs.{Input, Lapse, Expire, FreeTurn, Reap, Act, AskPropose, rests, asks}
 use Rattle.group_model.specs.Servers.{Server, open_desk, at_desk, done, logged}
 use Rattle.group_model.specs.DeskTurns.{lapse, expiry_command, expire, free_turn, free_turn_of, reap}
@@ -27,9 +27,9 @@ use Rattle.leader.specs.OpenDesks.{OpenDesk, if_open, at_open, unless_refused, o
 use Rattle.leader.specs.GroupActs.{lapse_act, expire_act, status_act}
 use Rattle.leader.proofs.Acts.{lapses_by_lapse, expires_by_expire, reaps_by_reap}
 use Rattle.server.specs.declared.server.Outbox.{Outbox}
-use Rattle.server.specs.ServerViews.{ServerView, IsServer, SameServer}
-use Rattle.server.specs.Refusals.{CanAppend, HasOpenDesk, CountedSoOften, MayTakeMemory}
-use Rattle.server.specs.Inner.Acts.{EachServer, DoesAct, EachDoes, DeclinesOwn, Falters, IsProposed, WhyNotProposed, act_of, proposes_if_any}
+use Rattle.server.specs.ServerViews.{ServerView, RefinesServer, SameServer}
+use Rattle.server.specs.Refusals.{CanAppend, HasOpenDesk, CountedSoOften, OutOfMemoryMayEnd}
+use Rattle.server.specs.Inner.Acts.{EachServer, DoesAct, EachDoes, DeclinesOwn, OutOfMemoryTurn, IsProposed, WhyNotProposed, act_of, proposes_if_any}
 use Rattle.server.proofs.Servers.{same_is, same_then, desk_at, open_at}
 use Rattle.server.proofs.DeskCalls.{open_of, Moves, moves, lapse_keeps}
 use Rattle.server.proofs.Serving.{leader_up, act_taken, does_proposed, does_nothing}
@@ -42,7 +42,7 @@ Answer = Result (Unit {0}) Refusal
 pub same_view : (v : ServerView) → SameServer v v
 same_view v = record { raft = record { me = refl; size = refl; base = refl; server = refl }; desk = refl }
 
-pub falters : (old new : ServerView) (out : Outbox) → SameServer old new → Falters old new out out
+pub falters : (old new : ServerView) (out : Outbox) → SameServer old new → OutOfMemoryTurn old new out out
 falters old new out same = record { me = same.raft.me; size = same.raft.size; base = same.raft.base; stored = ap crashed same.raft.server; front = take-length out.frames; work = refl }
 
 no_memory_or : (e : Refusal) → (e ≡ refusals.NoMemory) ⊎ (e ≢ refusals.NoMemory)
@@ -50,7 +50,7 @@ no_memory_or refusals.NoMemory = inl refl
 no_memory_or _ = inr (λ q. absurd (cc q))
 
 module _ (old new : ServerView) (input : Input) (same : SameServer old new) (out : Outbox) where
-  pub lacks : EachServer old (λ s. MayTakeMemory old.raft.size s input) → DeclinesOwn old input refusals.NoMemory new out out
+  pub lacks : EachServer old (λ s. OutOfMemoryMayEnd old.raft.size s input) → DeclinesOwn old input refusals.NoMemory new out out
   lacks may = (may, falters old new out same)
 
   -- as the definitions refuse it
@@ -63,7 +63,7 @@ module _ (old new : ServerView) (input : Input) (same : SameServer old new) (out
   shut turn by e other closed = declines e other (λ s is. by s ∙ ap (λ d. at_desk d (turn s)) (closed s is))
 
   -- or for want of memory
-  pub stops : (e : Refusal) → EachServer old (λ s. MayTakeMemory old.raft.size s input) → EachServer old (λ s. (e ≡ refusals.NoMemory) ⊎ (act_of old input s ≡ Err e)) → DeclinesOwn old input e new out out
+  pub stops : (e : Refusal) → EachServer old (λ s. OutOfMemoryMayEnd old.raft.size s input) → EachServer old (λ s. (e ≡ refusals.NoMemory) ⊎ (act_of old input s ≡ Err e)) → DeclinesOwn old input e new out out
   stops e may why = elim (no_memory_or e) [
     | inl none ↦ subst (λ (r : Refusal). DeclinesOwn old input r new out out) (sym none) (lacks may)
     | inr other ↦ declines e other (λ s is. elim (why s is) [
@@ -79,20 +79,20 @@ module _ (old mid new : ServerView) (input : Input) (c : Command) (turn : EachSe
   proposed p out s is =
       let one = p s (same_is old mid s same is) in
       subst (λ (a : Result Act Refusal). DoesAct old.raft.size old.raft.me s a new out out) (sym (turn s is))
-      (does_proposed old.raft.size old.raft.me s new out out c [] s.desk one.leads one.admitted one.server (sends_nothing cluster_meaning out.frames) refl)
+      (does_proposed old.raft.size old.raft.me s new out out c [] s.desk one.leads one.admitted one.server (sends_nothing cluster_spec out.frames) refl)
 
   pub turn_taken : (r : Answer) → OnOk r (EachServer mid (λ s. IsProposed s c new)) → OnOk r ((out : Outbox) → EachDoes old (act_of old input) new out out)
   turn_taken (Ok u) p = proposed p
   turn_taken (Err cause) p = tt
 
-  module _ (leads : EachServer old (λ s. is_leader s.raft.mode ≡ true)) (may : EachServer old (λ s. CanAppend s.raft → MayTakeMemory old.raft.size s input)) where
+  module _ (leads : EachServer old (λ s. is_leader s.raft.mode ≡ true)) (may : EachServer old (λ s. CanAppend s.raft → OutOfMemoryMayEnd old.raft.size s input)) where
     declined : (cause : Refusal) → EachServer mid (λ s. WhyNotProposed s.raft c cause) → SameServer old new → (out : Outbox) → DeclinesOwn old input cause new out out
     declined refusals.NoMemory why stays out = (λ s is. may s is (why s (same_is old mid s same is)), falters old new out stays)
     declined cause why stays out = (
       λ s is.
           let act : Act = asks (AskPropose c) s.desk in
           ap (done old.raft.size old.raft.me s) (turn s is)
-          ∙ ap (λ b. logged s act (if b then raft_steps.proposes cluster_meaning s.raft c else Err refusals.Down)) (leader_up s.raft.mode (leads s is))
+          ∙ ap (λ b. logged s act (if b then raft_steps.proposes cluster_spec s.raft c else Err refusals.Down)) (leader_up s.raft.mode (leads s is))
           ∙ ap (logged s act) (why s (same_is old mid s same is)),
       record { same = stays; nothing = refl },
     )
@@ -120,7 +120,7 @@ lapse_done old new id h same call out s is = lapse_moved old new s id (moves (on
 -- ---- Expire, Free, Reap
 
 -- an expiry is never refused for want of memory
-expiry_memory_of : (c : Command) (beats : ℕ) (m : Option BeatCount) (e : Refusal) → unless_refused c (expiry_refusal_of beats m) ≡ Err e → e ≢ refusals.NoMemory
+expiry_memory_of : (c : Command) (beats : ℕ) (m : Option HeartbeatCount) (e : Refusal) → unless_refused c (expiry_refusal_of beats m) ≡ Err e → e ≢ refusals.NoMemory
 expiry_memory_of c beats None e h = λ q. cc
 expiry_memory_of c beats (Some p) e h = by (nat_eq p.beats beats) h where
   by : (b : Bool) → unless_refused c (cond b None (Some refusals.StaleExpiry)) ≡ Err e → e ≢ refusals.NoMemory
@@ -129,9 +129,9 @@ expiry_memory_of c beats (Some p) e h = by (nat_eq p.beats beats) h where
 
 expiry_memory : (node beats : ℕ) (applied : State) (d : Option OpenDesk) (e : Refusal) → if_open (on_expire node beats applied) d ≡ Err e → e ≢ refusals.NoMemory
 expiry_memory node beats applied None e h = λ q. cc
-expiry_memory node beats applied (Some o) e h = expiry_memory_of (expiry_command applied node) beats (beat_count_of node o.desk.beat_counts) e h
+expiry_memory node beats applied (Some o) e h = expiry_memory_of (expiry_command applied node) beats (heartbeat_count_of node o.desk.heartbeat_counts) e h
 
-module _ (old : ServerView) (s : Server) (is : IsServer old s) (h : HasOpenDesk s) where
+module _ (old : ServerView) (s : Server) (is : RefinesServer old s) (h : HasOpenDesk s) where
   open_one : (o : OpenDesk) × (old.desk ≡ Some o)
   open_one = open_of old.desk (subst (λ (d : Option Desk). is_some d ≡ true) (sym is.desk) h.is_open)
 
@@ -159,7 +159,7 @@ module _ (old : ServerView) (s : Server) (is : IsServer old s) (h : HasOpenDesk 
   pub expire_heard : (node beats : ℕ) (c : Command) → if_open (on_expire node beats (applied_state s.raft)) old.desk ≡ Ok c → CountedSoOften node beats s.desk
   expire_heard node beats c call =
       let told : on_expire node beats (applied_state s.raft) one ≡ Ok c = rw open_one.1 at call in
-      rw was (unrefused (expiry_command (applied_state s.raft) node) c (expiry_refusal node beats one.desk.beat_counts) told)
+      rw was (unrefused (expiry_command (applied_state s.raft) node) c (expiry_refusal node beats one.desk.heartbeat_counts) told)
 
   expire_refused : (node beats : ℕ) (e : Refusal) → if_open (on_expire node beats (applied_state s.raft)) old.desk ≡ Err e → act_of old (Expire node beats) s ≡ Err e
   expire_refused node beats e call =
@@ -171,19 +171,19 @@ module _ (old : ServerView) (s : Server) (is : IsServer old s) (h : HasOpenDesk 
   freed_is d id None e = rw e refl
   freed_is d id (Some v) e = rw e refl
 
-  pub free_is : (id : Option EvalId) → id ≡ option_map eval_id (first_due (applied_state s.raft) (whole_state s.raft)) → act_of old FreeTurn s ≡ Ok (proposes_if_any s.desk (option_map (λ i. commands.EvalStatus i changes.Pending) id))
+  pub free_is : (id : Option EvalId) → id ≡ option_map eval_id (first_due (applied_state s.raft) (projected_state s.raft)) → act_of old FreeTurn s ≡ Ok (proposes_if_any s.desk (option_map (λ i. commands.EvalStatus i changes.Pending) id))
   free_is id e =
       ap (λ (d : Result Desk Refusal). at_desk d (λ d. Ok (free_turn s.raft d))) is_open
-      ∙ ap act_taken (freed_is one.desk id (first_due (applied_state s.raft) (whole_state s.raft)) e)
+      ∙ ap act_taken (freed_is one.desk id (first_due (applied_state s.raft) (projected_state s.raft)) e)
       ∙ ap (λ (d : Option Desk). act_taken (proposes_if_any d (option_map (λ i. commands.EvalStatus i changes.Pending) id))) (sym was)
 
   reaped_is : (d : Desk) (id : Option EvalId) → status_act changes.Failed d (Ok id) ≡ Ok (proposes_if_any (Some d) (option_map (λ i. commands.EvalStatus i changes.Failed) id))
   reaped_is d None = refl
   reaped_is d (Some id) = refl
 
-  pub reap_is : (id : Option EvalId) → if_open (on_reap (whole_state s.raft)) old.desk ≡ Ok id → act_of old Reap s ≡ Ok (proposes_if_any s.desk (option_map (λ i. commands.EvalStatus i changes.Failed) id))
+  pub reap_is : (id : Option EvalId) → if_open (on_reap (projected_state s.raft)) old.desk ≡ Ok id → act_of old Reap s ≡ Ok (proposes_if_any s.desk (option_map (λ i. commands.EvalStatus i changes.Failed) id))
   reap_is id call =
-      let told : on_reap (whole_state s.raft) one ≡ Ok id = rw open_one.1 at call in
+      let told : on_reap (projected_state s.raft) one ≡ Ok id = rw open_one.1 at call in
       ap (λ (d : Result Desk Refusal). at_desk d (λ d. Ok (reap s.raft d))) is_open
       ∙ sym (reaps_by_reap s.raft one) ∙ ap (status_act changes.Failed one.desk) told ∙ reaped_is one.desk id
       ∙ ap (λ (d : Option Desk). act_taken (proposes_if_any d (option_map (λ i. commands.EvalStatus i changes.Failed) id))) (sym was)

@@ -7,8 +7,8 @@ use Rattle.rows.specs.declared.allocation.ClientState.TheVariants as clients
 use Rattle.rows.specs.declared.command.Report.{Report}
 use Rattle.rows.specs.Keys.{alloc_cmp, alloc_id}
 use Rattle.rows.specs.Rising.{is_rising}
-use Rattle.cluster_model.specs.Words.{State, alloc_of, is_some_and}
-use Rattle.cluster_model.proofs.Lists.{anys_same}
+use Rattle.fsm_model.specs.Words.{State, alloc_of, is_some_and}
+use Rattle.fsm_model.proofs.Lists.{anys_same}
 use Rattle.fsm_state.proofs.Reports.{is_told, untold, told_rows}
 use Rattle.group_model.specs.ClientRequests.{same_state, is_unmoved}
 use Rattle.server.specs.Inner.Idle.{stays_of, is_unmoved_at}

@@ -10,13 +10,13 @@ use Rattle.wire.specs.Frames.{message_at}
 use Rattle.raft_model.specs.Logs.{MAX}
 use Rattle.raft_model.specs.Rafts.{Raft, is_up, is_leader}
 use Rattle.raft_core.specs.Refusals.{is_server_at}
-use Rattle.cluster_model.specs.Words.{State}
-use Rattle.cluster_model.specs.ClusterMachine.{cluster_meaning}
-use Rattle.group_model.specs.BeatCounts.{expiry_refusal}
+use Rattle.fsm_model.specs.Words.{State}
+use Rattle.fsm_model.specs.ClusterMachine.{cluster_spec}
+use Rattle.group_model.specs.HeartbeatCounts.{expiry_refusal}
 use Rattle.group_model.specs.Desks.{Desk}
 use Rattle.group_model.specs.Inputs.{Input, Arrives, Timeout, Beat, Request, TakeFrom, SubmitTo, FinishAt, NackAt, PlanTurn, Lapse, Expire, DrainTurn, FreeTurn, Reap, Compact, Crash, Restart}
 use Rattle.group_model.specs.Servers.{Server, ServerTurn, step}
-use Rattle.server.specs.ServerViews.{ServerView, IsServer, SameServer, crashed_server}
+use Rattle.server.specs.ServerViews.{ServerView, RefinesServer, SameServer, crashed_server}
 use Rattle.group_inputs.specs.Handings.{Handing, FrameBytes, OwnInput}
 
 -- ---- bytes
@@ -39,7 +39,7 @@ read_refusal n me (Ok read) = wrong_address n me read.from read.to
 read_refusal n me (Err place) = Some (refusals.Frame place)
 
 abbrev pub bytes_refusal : ℕ → ℕ → List ℕ → Option Refusal
-bytes_refusal n me bytes = read_refusal n me (message_at cluster_meaning bytes)
+bytes_refusal n me bytes = read_refusal n me (message_at cluster_spec bytes)
 
 -- ---- what is handed in
 
@@ -77,7 +77,7 @@ pub record HasOpenDesk (s : Server) : Type 0 where
 -- an open desk heard of the node so often, and not since
 abbrev pub CountedSoOften : ℕ → ℕ → Option Desk → Type 0
 CountedSoOften node beats None = ⊥
-CountedSoOften node beats (Some d) = expiry_refusal node beats d.beat_counts ≡ None
+CountedSoOften node beats (Some d) = expiry_refusal node beats d.heartbeat_counts ≡ None
 
 -- its workers ask a server of the group
 pub record AsksServer (n : ℕ) (s : Server) (to : ℕ) : Type 0 where
@@ -87,57 +87,57 @@ pub record AsksServer (n : ℕ) (s : Server) (to : ℕ) : Type 0 where
 -- Which inputs may want memory, and when. A crash takes none, nor does what is outstanding and is
 -- free again, a timeout of one that leads or cannot stand, a beat of one that does not lead, a
 -- request or an expiry at a full log, or an expiry that the desk refuses.
-abbrev pub MayTakeMemory : ℕ → Server → Input → Type 0
-MayTakeMemory n s (Arrives message) = is_up s.raft.mode ≡ true
-MayTakeMemory n s Timeout = CanStand s
-MayTakeMemory n s Beat = is_leader s.raft.mode ≡ true
-MayTakeMemory n s (Request request) = CanAppend s.raft
-MayTakeMemory n s (TakeFrom to) = AsksServer n s to
-MayTakeMemory n s (SubmitTo to plan) = AsksServer n s to
-MayTakeMemory n s (FinishAt to eval token outcome) = AsksServer n s to
-MayTakeMemory n s (NackAt to eval token) = AsksServer n s to
-MayTakeMemory n s PlanTurn = HasOpenDesk s
-MayTakeMemory n s (Lapse eval) = ⊥
-MayTakeMemory n s (Expire node beats) =
+abbrev pub OutOfMemoryMayEnd : ℕ → Server → Input → Type 0
+OutOfMemoryMayEnd n s (Arrives message) = is_up s.raft.mode ≡ true
+OutOfMemoryMayEnd n s Timeout = CanStand s
+OutOfMemoryMayEnd n s Beat = is_leader s.raft.mode ≡ true
+OutOfMemoryMayEnd n s (Request request) = CanAppend s.raft
+OutOfMemoryMayEnd n s (TakeFrom to) = AsksServer n s to
+OutOfMemoryMayEnd n s (SubmitTo to plan) = AsksServer n s to
+OutOfMemoryMayEnd n s (FinishAt to eval token outcome) = AsksServer n s to
+OutOfMemoryMayEnd n s (NackAt to eval token) = AsksServer n s to
+OutOfMemoryMayEnd n s PlanTurn = HasOpenDesk s
+OutOfMemoryMayEnd n s (Lapse eval) = ⊥
+OutOfMemoryMayEnd n s (Expire node beats) =
     HasOpenDesk s × CountedSoOften node beats s.desk × CanAppend s.raft
-MayTakeMemory n s (DrainTurn node) = HasOpenDesk s
-MayTakeMemory n s FreeTurn = HasOpenDesk s
-MayTakeMemory n s Reap = HasOpenDesk s
-MayTakeMemory n s Compact = is_up s.raft.mode ≡ true
-MayTakeMemory n s Crash = ⊥
-MayTakeMemory n s Restart = is_up s.raft.mode ≡ false
+OutOfMemoryMayEnd n s (DrainTurn node) = HasOpenDesk s
+OutOfMemoryMayEnd n s FreeTurn = HasOpenDesk s
+OutOfMemoryMayEnd n s Reap = HasOpenDesk s
+OutOfMemoryMayEnd n s Compact = is_up s.raft.mode ≡ true
+OutOfMemoryMayEnd n s Crash = ⊥
+OutOfMemoryMayEnd n s Restart = is_up s.raft.mode ≡ false
 
 -- bytes that are no message may want memory too
-abbrev pub MayLackMemory : ℕ → Server → Handing → Type 0
-MayLackMemory n s (FrameBytes bytes) = is_up s.raft.mode ≡ true
-MayLackMemory n s (OwnInput input) = MayTakeMemory n s input
+abbrev pub MayEndOutOfMemory : ℕ → Server → Handing → Type 0
+MayEndOutOfMemory n s (FrameBytes bytes) = is_up s.raft.mode ≡ true
+MayEndOutOfMemory n s (OwnInput input) = OutOfMemoryMayEnd n s input
 
 -- ---- both
 
 -- this refusal may be answered: want of memory where some may be wanted, any other where it is the
 -- one above
 abbrev pub IsHandingRefused : ℕ → ℕ → Server → Handing → Refusal → Type 0
-IsHandingRefused n me s h refusals.NoMemory = MayLackMemory n s h
+IsHandingRefused n me s h refusals.NoMemory = MayEndOutOfMemory n s h
 IsHandingRefused n me s h cause = handing_refusal n me s h ≡ Some cause
 
 -- want of memory is a crash, but that a restart changes nothing
-abbrev pub NoMemoryLeaves : ServerView → Server → Handing → ServerView → Type 0
-NoMemoryLeaves old s (OwnInput Restart) new = new ≡ old
-NoMemoryLeaves old s h new = IsServer new (crashed_server s)
+abbrev pub OutOfMemoryLeaves : ServerView → Server → Handing → ServerView → Type 0
+OutOfMemoryLeaves old s (OwnInput Restart) new = new ≡ old
+OutOfMemoryLeaves old s h new = RefinesServer new (crashed_server s)
 
 -- any other refusal leaves the same server
 abbrev pub HandingRefusalLeaves : ServerView → Server → Handing → Refusal → ServerView → Type 0
-HandingRefusalLeaves old s h refusals.NoMemory new = NoMemoryLeaves old s h new
+HandingRefusalLeaves old s h refusals.NoMemory new = OutOfMemoryLeaves old s h new
 HandingRefusalLeaves old s h cause new = SameServer old new
 
 -- The same of the value itself, whichever servers it is: any refusal but want of memory leaves the
 -- same server, and want of memory in a restart changes nothing.
-abbrev pub NoMemoryStays : ServerView → Handing → ServerView → Type 0
-NoMemoryStays old (OwnInput Restart) new = new ≡ old
-NoMemoryStays old h new = Unit {0}
+abbrev pub OutOfMemoryStays : ServerView → Handing → ServerView → Type 0
+OutOfMemoryStays old (OwnInput Restart) new = new ≡ old
+OutOfMemoryStays old h new = Unit {0}
 
 abbrev pub HandingStays : ServerView → Handing → Refusal → ServerView → Type 0
-HandingStays old h refusals.NoMemory new = NoMemoryStays old h new
+HandingStays old h refusals.NoMemory new = OutOfMemoryStays old h new
 HandingStays old h cause new = SameServer old new
 
 -- ---- other calls

@@ -4,9 +4,9 @@ use Rattle.std.specs.Prelude.{◌≡◌, true, Option, None, option_map, IfSome}
 use Rattle.rows.specs.declared.command.Command.{Command}
 use Rattle.raft_model.specs.Rafts.{Raft, is_leader, crashed, restarted}
 use Rattle.raft_core.specs.RaftView.{RaftView, SameRaft}
-use Rattle.raft_core.specs.Steps.{Represents}
-use Rattle.cluster_model.specs.Words.{State}
-use Rattle.cluster_model.specs.ClusterMachine.{cluster_meaning}
+use Rattle.raft_core.specs.Steps.{Refines}
+use Rattle.fsm_model.specs.Words.{State}
+use Rattle.fsm_model.specs.ClusterMachine.{cluster_spec}
 use Rattle.group_model.specs.Desks.{Desk, applied_state}
 use Rattle.group_model.specs.Servers.{Server}
 use Rattle.leader.specs.OpenDesks.{OpenDesk}
@@ -28,8 +28,8 @@ pub record IsOfLeader (s : Raft Command) (o : OpenDesk) : Type 0 where
   pub over : IsOver (applied_state s) o
 
 -- which server of the definitions a value is
-pub record IsServer (view : ServerView) (s : Server) : Type 0 where
-  pub raft : Represents cluster_meaning view.raft s.raft
+pub record RefinesServer (view : ServerView) (s : Server) : Type 0 where
+  pub raft : Refines cluster_spec view.raft s.raft
   pub desk : group_desk view.desk ≡ s.desk
   pub led : IfSome view.desk (IsOfLeader s.raft)
 

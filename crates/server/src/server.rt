@@ -19,17 +19,17 @@ ghost use Rattle.raft_model.specs.Logs.{last_term};
 ghost use Rattle.raft_model.specs.Rafts.{is_up};
 ghost use Rattle.raft_core.specs.Steps.{role_of};
 ghost use Rattle.raft_core.specs.Refusals.{WhyNot};
-ghost use Rattle.raft_core.specs.Tickets.{standing_of};
+ghost use Rattle.raft_core.specs.Tickets.{proposal_status_of};
 ghost use Rattle.group_model.specs.Desks.{applied_state};
 ghost use Rattle.group_model.specs.Servers.{Server as AnyServer, newcomer};
-ghost use Rattle.server.specs.ServerViews.{IsServer};
+ghost use Rattle.server.specs.ServerViews.{RefinesServer};
 ghost use Rattle.server.specs.Refusals.{WhyNoSnapshot};
 
 use crate::server_desk::ServerDesk;
 use fsm_state::Cluster;
 use leader::Desk;
 use machine::Machine;
-use raft_core::{Raft, Role, Stable, Standing, Ticket};
+use raft_core::{ProposalStatus, Raft, Role, Stable, Ticket};
 use rows::{Index, Refusal, Sequence, ServerId, Term, Work};
 use std::alloc::Global;
 use std::marker::Model;
@@ -74,7 +74,7 @@ impl Server {
     /// with `NoMemory`.
     pub fn new(alloc: Global, me: ServerId, size: usize) -> Result<Server, Refusal>
         ensures number { IfOk result (λ s. (s.raft.me ≡ me) × (s.raft.size ≡ size)) }
-        ensures newcomer { IfOk result (λ s. IsServer s newcomer) }
+        ensures newcomer { IfOk result (λ s. RefinesServer s newcomer) }
         ensures refused { IfErr result (λ e. WhyNot size me e) }
     {
         match Server::restart(alloc, me, size, Stable::new(alloc)) {
@@ -99,7 +99,7 @@ impl Server {
 
     /// What it is doing in the group, while it is up.
     pub fn role(&self) -> Option<Role>
-        ensures value { (s : AnyServer) → IsServer self.now s → result ≡ role_of s.raft.mode }
+        ensures value { (s : AnyServer) → RefinesServer self.now s → result ≡ role_of s.raft.mode }
         ensures shown { result ≡ role_of self.now.raft.server.mode }
     {
         self.raft.role()
@@ -107,7 +107,7 @@ impl Server {
 
     /// Its current term, also while it is down.
     pub fn term(&self) -> Term
-        ensures value { (s : AnyServer) → IsServer self.now s → result ≡ s.raft.term }
+        ensures value { (s : AnyServer) → RefinesServer self.now s → result ≡ s.raft.term }
         ensures shown { result ≡ self.now.raft.server.term }
     {
         self.raft.term()
@@ -115,7 +115,7 @@ impl Server {
 
     /// The index of the last entry of its log, also while it is down; 0 where there is none.
     pub fn last(&self) -> Index
-        ensures value { (s : AnyServer) → IsServer self.now s → result ≡ length s.raft.log }
+        ensures value { (s : AnyServer) → RefinesServer self.now s → result ≡ length s.raft.log }
         ensures shown { result ≡ length self.now.raft.server.log }
     {
         self.raft.last()
@@ -124,7 +124,7 @@ impl Server {
     /// The term of the last entry of its log, also while it is down and where its snapshot covers
     /// that entry; 0 where there is none.
     pub fn last_term(&self) -> Term
-        ensures value { (s : AnyServer) → IsServer self.now s → result ≡ last_term s.raft.log }
+        ensures value { (s : AnyServer) → RefinesServer self.now s → result ≡ last_term s.raft.log }
         ensures shown { result ≡ last_term self.now.raft.server.log }
     {
         self.raft.last_term()
@@ -132,7 +132,7 @@ impl Server {
 
     /// How many entries are applied, while it is up: all that are committed.
     pub fn applied(&self) -> Option<Index>
-        ensures value { (s : AnyServer) → IsServer self.now s →
+        ensures value { (s : AnyServer) → RefinesServer self.now s →
             MatchOption result (is_up s.raft.mode ≡ false) (λ n. (is_up s.raft.mode ≡ true)
             × (n ≡ s.raft.commit)) }
         ensures shown { let s = self.now.raft.server in
@@ -143,16 +143,16 @@ impl Server {
     }
 
     /// What it knows of a command by its ticket, while it is up.
-    pub fn standing(&self, ticket: Ticket) -> Option<Standing>
-        ensures { (s : AnyServer) → IsServer self.now s →
-            result ≡ standing_of s.raft ticket.index ticket.term }
+    pub fn proposal_status(&self, ticket: Ticket) -> Option<ProposalStatus>
+        ensures { (s : AnyServer) → RefinesServer self.now s →
+            result ≡ proposal_status_of s.raft ticket.index ticket.term }
     {
-        self.raft.standing(ticket)
+        self.raft.proposal_status(ticket)
     }
 
     /// The replicated state after the committed entries, while it is up.
     pub fn state(&self) -> Option<&Cluster>
-        ensures { (s : AnyServer) → IsServer self.now s →
+        ensures { (s : AnyServer) → RefinesServer self.now s →
             MatchOption result (is_up s.raft.mode ≡ false) (λ r. (is_up s.raft.mode ≡ true)
             × (r.now ≡ applied_state s.raft)) }
     {
@@ -171,9 +171,9 @@ impl Server {
     ///
     /// It is refused with `Down` while the server is down, and with `NoMemory`.
     pub fn snapshot(&self) -> Result<(Arc<Cluster>, Index), Refusal>
-        ensures state { IfOk result (λ p. (s : AnyServer) → IsServer self.now s →
+        ensures state { IfOk result (λ p. (s : AnyServer) → RefinesServer self.now s →
             (is_up s.raft.mode ≡ true) × (arc_value p.0 ≡ applied_state s.raft) × (p.1 ≡ s.raft.commit)) }
-        ensures refused { IfErr result (λ e. (s : AnyServer) → IsServer self.now s →
+        ensures refused { IfErr result (λ e. (s : AnyServer) → RefinesServer self.now s →
             WhyNoSnapshot s e) }
     {
         let (Some(state), Some(applied)) = (self.raft.machine(), self.raft.applied()) else {

@@ -14,8 +14,8 @@ use Rattle.raft_safety.proofs.Places.{get-within, get-last, push_length}
 use Rattle.raft_safety.proofs.Logs.{agree_less}
 use Rattle.raft_safety.proofs.Moments.{front_get}
 use Rattle.raft_safety.proofs.Sound.{Sound}
-use Rattle.cluster_model.specs.ClusterMachine.{cluster_meaning}
-use Rattle.cluster_model.proofs.ClusterMachine.{cluster_lawful}
+use Rattle.fsm_model.specs.ClusterMachine.{cluster_spec}
+use Rattle.fsm_model.proofs.ClusterMachine.{cluster_lawful}
 use Rattle.group_model.specs.Servers.{Server}
 use Rattle.group_model.specs.Brokers.{outstanding}
 use Rattle.group_model.specs.Desks.{Desk}
@@ -46,13 +46,13 @@ split_at (suc p) (y ∷ xs) x h = ap (λ l. y ∷ l) (split_at p xs x h)
 -- ---- the list of a run
 
 module _ (n : ℕ) (nodes : List NodeSpec) (events : List Event) (past : List World) (w : World) (run : Run n nodes events past w) (L : List (Entry Command)) (one : OneList past w L) where
-  pub the_list_sound : Sound cluster_meaning L
+  pub the_list_sound : Sound cluster_spec L
   the_list_sound = let s = chained.shadow n nodes events past w run in
-      list_sound cluster_meaning cluster_lawful n s.log_events s.log_past (raft_of w) s.run L (chained.in_log n nodes events past w run L one)
+      list_sound cluster_spec cluster_lawful n s.log_events s.log_past (raft_of w) s.run L (chained.in_log n nodes events past w run L one)
 
   pub the_list_rises : Rising L
   the_list_rises = let s = chained.shadow n nodes events past w run in
-      list_rises cluster_meaning cluster_lawful n s.log_events s.log_past (raft_of w) s.run L (chained.in_log n nodes events past w run L one)
+      list_rises cluster_spec cluster_lawful n s.log_events s.log_past (raft_of w) s.run L (chained.in_log n nodes events past w run L one)
 
 -- ---- where an entry comes from
 
@@ -107,8 +107,8 @@ module _ (n : ℕ) (nodes : List NodeSpec) (events : List Event) (past : List Wo
   now : LogAt ws y (length ws) i s
   now = record { world = raft_of y; world_is = log_moment ws y (length ws) y (get-last ws y); here = here }
 
-  o : Origin cluster_meaning sh.log_events sh.log_past (raft_of y) s.log p
-  o = log_origin cluster_meaning cluster_lawful n sh.log_events sh.log_past (raft_of y) sh.run (sh.place (length ws)) i s (to_log n es ws y sh (length ws) i s now) p (omega (arith, g.left))
+  o : Origin cluster_spec sh.log_events sh.log_past (raft_of y) s.log p
+  o = log_origin cluster_spec cluster_lawful n sh.log_events sh.log_past (raft_of y) sh.run (sh.place (length ws)) i s (to_log n es ws y sh (length ws) i s now) p (omega (arith, g.left))
 
   src : Source es ws y sh.place o.moment o.event
   src = sh.sources o.moment o.event o.event_at

@@ -11,9 +11,9 @@ use Rattle.raft_model.specs.Rafts.{Raft, Mode, Down, Follower, Candidate, Leader
 use Rattle.raft_model.proofs.Leading.{Leading, goes_on, hears, appends as proposes, wins, step_leads}
 use Rattle.raft_model.proofs.Cases.{bool_cases}
 use Rattle.raft_safety.proofs.Places.{get_set-same, get_set-cases, get-where, get-one, get-within}
-use Rattle.cluster_model.specs.Words.{State}
-use Rattle.cluster_model.specs.Effect.{applied}
-use Rattle.cluster_model.specs.ClusterMachine.{cluster_meaning}
+use Rattle.fsm_model.specs.Words.{State}
+use Rattle.fsm_model.specs.Effect.{applied}
+use Rattle.fsm_model.specs.ClusterMachine.{cluster_spec}
 use Rattle.group_model.specs.Brokers.{Free, Task, next_token}
 use Rattle.group_model.specs.Desks.{Desk, opened, after_entry, after_entries, applied_state, newly}
 use Rattle.group_model.specs.Servers.{Server}
@@ -82,7 +82,7 @@ pub record Handling (s t : Server) (given : List (EvalId × Token)) : Type 0 whe
   pub follows : is_leader t.raft.mode ≡ true → Follows act t.desk
   pub came : is_leader t.raft.mode ≡ true → Came s t
 
-came_by : (n i : ℕ) (s t : Server) (input : _) → is_leader t.raft.mode ≡ true → Leading cluster_meaning n i s.raft input t.raft → Came s t
+came_by : (n i : ℕ) (s t : Server) (input : _) → is_leader t.raft.mode ≡ true → Leading cluster_spec n i s.raft input t.raft → Came s t
 came_by n i s t input is (goes_on mode term log commit) = (inl (sym (ap is_leader mode) ∙ is), term)
 came_by n i s t input is (hears r next match before mode term log commit same) = (inl before, ap (λ (x : Raft Command). x.term) same ∙ term)
 came_by n i s t input is (proposes command before asked same) = (inl before, ap (λ (x : Raft Command). x.term) same)
@@ -99,7 +99,7 @@ handling n i s t given (desk_steps.logs input d out l step desk) = record {
   act = d;
   like = l;
   follows = λ leads. subst (Follows d) (sym (desk ∙ ap (λ b. cond b (after_entries t.raft.term (applied_state s.raft) (newly s.raft t.raft) d) None) leads)) (entries_follow t.raft.term (newly s.raft t.raft) (applied_state s.raft) d);
-  came = λ leads. came_by n i s t input leads (step_leads cluster_meaning n i s.raft input (record { server = t.raft; sent = out }) step leads);
+  came = λ leads. came_by n i s t input leads (step_leads cluster_spec n i s.raft input (record { server = t.raft; sent = out }) step leads);
 }
 
 -- who has an open desk leads
@@ -293,7 +293,7 @@ module _ (n : ℕ) (nodes : List NodeSpec) (events : List Event) (past : List Wo
           let a = to_log n events past w p led.when o.place led.server.raft (server_log past w led.when o.place led.server (subst (λ i. ServerAt past w led.when i led.server) who led.at)) in
           let b = to_log n events past w p k o.place o.old.raft (server_log past w k o.place o.old (old_at o.place o.old o.here)) in
           let l = leader_parts led.server.raft led.leads in
-          let q : IsPast term o.old.raft = past_later cluster_meaning n p.log_events p.log_past (raft_of w) p.run term (p.place led.when) (p.place k) o.place led.server.raft o.old.raft (p.ordered led.when k led.by) a b
+          let q : IsPast term o.old.raft = past_later cluster_spec n p.log_events p.log_past (raft_of w) p.run term (p.place led.when) (p.place k) o.place led.server.raft o.old.raft (p.ordered led.when k led.by) a b
           (inr (led.its, λ v e. let z = sym l.2 ∙ e in cc)) in
           elim q [ inl less ↦ omega (arith, less, its) | inr g ↦ g.1 votes mode ]
         where

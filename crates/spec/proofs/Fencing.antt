@@ -10,7 +10,7 @@ use Rattle.rows.specs.declared.command.Command.TheVariants as commands
 use Rattle.machine_model.specs.declared.entry.Entry.{Entry}
 use Rattle.raft_model.proofs.Cases.{bool_cases}
 use Rattle.raft_safety.proofs.Places.{get-where, get-one, get-within, get-more, get-last, push_length, take_append}
-use Rattle.cluster_model.specs.Words.{same_eval}
+use Rattle.fsm_model.specs.Words.{same_eval}
 use Rattle.spec.specs.Spec.{SpecState, init, state_of, Action, appends, commits, at_server, starts, delivers, ends, Actions, none, more}
 use Rattle.spec.specs.Safety.{WasPending, WasDelivered, IsFenced, HasOneHolder}
 use Rattle.spec.proofs.Steps.{same_ids, same_itself}

@@ -1,7 +1,7 @@
 -- A step of the log's world is some actions of the log's specification.
 use Rattle.std.proofs.Common.{◌≡◌, ℕ, zero, suc, ◌≤◌, ◌⊎◌, inl, inr, Option, Some, None, List, [], ◌∷◌, ◌++◌, length, map, take, drop, refl, sym, ap, ◌∙◌, subst, arith, slice_get, slice_set, append-nil, append_assoc, take-append-drop, length-append, take_all, replicate}
 use Rattle.std.proofs.lemmas.Option.{same_Some}
-use Rattle.machine_model.specs.Meaning.{Meaning, LawfulMachine, IsCommandOf}
+use Rattle.machine_model.specs.MachineSpec.{MachineSpec, LawfulMachine, IsCommandOf}
 use Rattle.machine_model.specs.After.{after_from, AdmittedFrom}
 use Rattle.machine_model.specs.declared.entry.Entry.{Entry}
 use Rattle.raft_model.specs.Logs.{term_at, last_term, commands}
@@ -23,7 +23,7 @@ use Rattle.group_safety.proofs.Lists.{get_map, map_set}
 use Rattle.spec.specs.Spec.{ServerStep, applies, crashes, restarts}
 use Rattle.spec.specs.LogSpec.{LogState, MayFollow, appends, at_server, Actions, none, more, last_applied_by, Shows, init, Refines, begins, moves, RefinesLog}
 
-module _ {S C : Type 0} (m : Meaning S C) where
+module _ {S C : Type 0} (m : MachineSpec S C) where
   -- two parts, one after the other
   pub acts_both : (g h k : LogState C) → Actions m g h → Actions m h k → Actions m g k
   acts_both g h k a none = a
@@ -103,7 +103,7 @@ rising_next (a ∷ A) e D r =
     let h = r (suc (length A)) (suc (suc (length A))) (omega arith) (omega arith) (omega (arith, length-append A (e ∷ D))) in
     omega (arith, h, term_next (a ∷ A) e D, term_first (a ∷ A) (e ∷ D))
 
-module _ {S C : Type 0} (m : Meaning S C) where
+module _ {S C : Type 0} (m : MachineSpec S C) where
   admitted_next : (s : S) (xs : List C) (c : C) (ys : List C) → AdmittedFrom m s (xs ++ c ∷ ys) → IsCommandOf m c × (m.admission (after_from m s xs) c ≡ None)
   admitted_next s [] c ys h = (h.0, h.1)
   admitted_next s (x ∷ xs) c ys h = admitted_next (m.applied s x) xs c ys h.2
@@ -138,7 +138,7 @@ module _ {S C : Type 0} (m : Meaning S C) where
 
 -- ---- a run
 
-module _ {S C : Type 0} (m : Meaning S C) (law : LawfulMachine m) (n : ℕ) (events : List (Event C)) (past : List (World C)) (w : World C) (run : Run m n events past w) (list : List (Entry C)) (one : Chain past w list) where
+module _ {S C : Type 0} (m : MachineSpec S C) (law : LawfulMachine m) (n : ℕ) (events : List (Event C)) (past : List (World C)) (w : World C) (run : Run m n events past w) (list : List (Entry C)) (one : Chain past w list) where
   same : (st m law n events past w run).list ≡ list
   same = chain_one past w (st m law n events past w run).list list (chain m law n events past w run) one
 
@@ -173,12 +173,12 @@ first_applied C zero = refl
 first_applied C (suc n) = ap (λ l. Some 0 ∷ l) (first_applied C n)
 
 -- what a run comes to
-record Comes {S C : Type 0} (m : Meaning S C) (n : ℕ) (past : List (World C)) (w : World C) : Type 0 where
+record Comes {S C : Type 0} (m : MachineSpec S C) (n : ℕ) (past : List (World C)) (w : World C) : Type 0 where
   list : List (Entry C)
   refines : Refines m n past w (record { log = list; last_applied = map last_applied_by w.servers })
   chain : Chain past w list
 
-module _ {S C : Type 0} (m : Meaning S C) (law : LawfulMachine m) (n : ℕ) where
+module _ {S C : Type 0} (m : MachineSpec S C) (law : LawfulMachine m) (n : ℕ) where
   begin_shows : Shows {C = C} (first n) (init n)
   begin_shows = record {
     servers = first_applied C n;

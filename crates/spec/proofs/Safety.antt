@@ -10,12 +10,12 @@ use Rattle.rows.specs.declared.command.Command.{Command}
 use Rattle.rows.specs.declared.command.Command.TheVariants as commands
 use Rattle.machine_model.specs.declared.entry.Entry.{Entry}
 use Rattle.raft_safety.proofs.Places.{take_get, get_set-same, get_set-cases, get-where, get-one, get-more, get-within, take_append, take_none, push_length}
-use Rattle.cluster_model.specs.Words.{State, no_rows}
-use Rattle.cluster_model.specs.Effect.{applied}
-use Rattle.cluster_model.specs.Admission.{admission}
-use Rattle.cluster_model.specs.SafeFacts.{Safe}
-use Rattle.cluster_model.proofs.SafeLaws.{keeps_safe}
-use Rattle.cluster_model.proofs.ClusterMachine.{cluster_lawful}
+use Rattle.fsm_model.specs.Words.{State, no_rows}
+use Rattle.fsm_model.specs.Effect.{applied}
+use Rattle.fsm_model.specs.Admission.{admission}
+use Rattle.fsm_model.specs.SafeFacts.{Safe}
+use Rattle.fsm_model.proofs.SafeLaws.{keeps_safe}
+use Rattle.fsm_model.proofs.ClusterMachine.{cluster_lawful}
 use Rattle.spec.specs.Spec.{SpecState, init, state_from, state_of, ServerStep, applies, crashes, restarts, IsPlaced, Action, appends, commits, at_server, starts, delivers, ends, Actions, none, more}
 use Rattle.raft_model.specs.Logs.{term_at}
 use Rattle.group_safety.proofs.Fresh.{term_get}

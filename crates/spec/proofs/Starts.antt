@@ -11,7 +11,7 @@ use Rattle.rows.specs.declared.listing.ListedAllocation.{ListedAllocation}
 use Rattle.raft_model.specs.Messages.{Message}
 use Rattle.rows.specs.declared.command.Command.{Command}
 use Rattle.raft_model.proofs.Cases.{same_ok}
-use Rattle.cluster_model.specs.Words.{same_alloc}
+use Rattle.fsm_model.specs.Words.{same_alloc}
 use Rattle.group_model.specs.Messages.{GroupMessage, OfLog, Service, ServiceMessage, BetweenServers, ToServer, ToClient, ClientResponse, Listing, Told}
 use Rattle.group_model.specs.Inputs as inputs
 use Rattle.group_model.specs.Servers as servers

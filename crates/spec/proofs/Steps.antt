@@ -32,11 +32,11 @@ use Rattle.raft_safety.proofs.Places.{get-within, get-last, get-more, get-some, 
 use Rattle.raft_safety.proofs.Commits.{turn_commit}
 use Rattle.raft_safety.proofs.Election as election
 use Rattle.raft_safety.proofs.Sound.{Sound, first_sound, sound_admitted}
-use Rattle.cluster_model.specs.Words.{State, no_rows, same_eval, is_pending}
-use Rattle.cluster_model.specs.Effect.{applied}
-use Rattle.cluster_model.specs.Admission.{admission}
-use Rattle.cluster_model.specs.ClusterMachine.{cluster_meaning}
-use Rattle.cluster_model.proofs.ClusterMachine.{cluster_lawful}
+use Rattle.fsm_model.specs.Words.{State, no_rows, same_eval, is_pending}
+use Rattle.fsm_model.specs.Effect.{applied}
+use Rattle.fsm_model.specs.Admission.{admission}
+use Rattle.fsm_model.specs.ClusterMachine.{cluster_spec}
+use Rattle.fsm_model.proofs.ClusterMachine.{cluster_lawful}
 use Rattle.group_model.specs.Brokers.{Free, Task, Key, task_id, task_of, task_key, eval_key, next_token}
 use Rattle.group_model.specs.Desks.{Desk, applied_state}
 use Rattle.group_model.proofs.KeptRows.{rising_kept, rising_back, all_found}
@@ -73,7 +73,7 @@ pub acts_one : (g h : SpecState) → Action g h → Actions g h
 acts_one g h a = more none a
 
 -- the specification's states are the machine's
-pub state_same : (s : State) (L : List (Entry Command)) → state_from s L ≡ after_from cluster_meaning s (logs_model.commands L)
+pub state_same : (s : State) (L : List (Entry Command)) → state_from s L ≡ after_from cluster_spec s (logs_model.commands L)
 unfolding logs_model.commands
 state_same s [] = refl
 state_same s (e ∷ L) = state_same (applied s e.command) L
@@ -106,11 +106,11 @@ set_like (z ∷ zs) (suc i) x y h e = ap (λ l. seen z ∷ l) (set_like zs i x y
 -- ---- the servers' part
 
 module _ (n i : ℕ) (sent : List (Message Command)) (s t : Raft Command) (out : List (Message Command)) (committed : ℕ) where
-  turn_seen : Turns cluster_meaning n i sent s t out → (is_up t.mode ≡ true → t.commit ≤ committed) → (seen s ≡ seen t) ⊎ ServerStep committed (seen s) (seen t)
+  turn_seen : Turns cluster_spec n i sent s t out → (is_up t.mode ≡ true → t.commit ≤ committed) → (seen s ≡ seen t) ⊎ ServerStep committed (seen s) (seen t)
   unfolding seen
   turn_seen turn fits = elim (bool_cases (is_up s.mode)) [
     | inl a ↦ elim (bool_cases (is_up t.mode)) [
-      | inl b ↦ inr (rw a (rw b (applies s.commit t.commit (turn_commit cluster_meaning n i sent s t out turn a b) (fits b))))
+      | inl b ↦ inr (rw a (rw b (applies s.commit t.commit (turn_commit cluster_spec n i sent s t out turn a b) (fits b))))
       | inr b ↦ inr (rw a (rw b (crashes s.commit)))
     ]
     | inr a ↦ elim (bool_cases (is_up t.mode)) [
@@ -127,7 +127,7 @@ module _ (x y : World) (g : SpecState) (is : g.last_applied ≡ map last_applied
   same_served : map last_applied_by y.servers ≡ map last_applied_by x.servers → Served
   same_served e = subst (λ l. Actions g (record g { last_applied = l })) (is ∙ sym e) none
 
-  moved_served : (f : raft_worlds.Event Command) → election.Moves cluster_meaning (raft_of x) f (raft_of y) → Served
+  moved_served : (f : raft_worlds.Event Command) → election.Moves cluster_spec (raft_of x) f (raft_of y) → Served
   moved_served f v =
       let here : slice_get (raft_of y).servers v.who ≡ Some v.new = subst (λ l. slice_get l v.who ≡ Some v.new) (sym v.servers) (get_set-same (raft_of x).servers v.who v.new (get-within (raft_of x).servers v.who v.old v.here)) in
       elim (turn_seen (length (raft_of x).servers) v.who (raft_of x).sent v.old v.new v.out g.committed v.path (fits v.who v.new here)) [
@@ -140,7 +140,7 @@ module _ (x y : World) (g : SpecState) (is : g.last_applied ≡ map last_applied
 
   by_event : (o : Option (raft_worlds.Event Command)) → LogEventFits o → world_steps.Moves x y o → Served
   by_event None fit h = same_served (seen_same y.servers ∙ (ap (λ (v : raft_worlds.World Command). map seen v.servers) h ∙ sym (seen_same x.servers)))
-  by_event (Some f) fit h = moved_served f (election.event_moves cluster_meaning (raft_of x) (raft_of y) f fit h)
+  by_event (Some f) fit h = moved_served f (election.event_moves cluster_spec (raft_of x) (raft_of y) f fit h)
 
   pub served : (e : Event) → IsEvent x e → happens x e ≡ Ok y → Served
   served e fit h = by_event (raft_event x e) fit (world_steps.event_moves x y e h)
@@ -304,7 +304,7 @@ module _ (n : ℕ) (nodes : List NodeSpec) (events : List Event) (past : List Wo
           let was : long k ≡ p = omega (arith, above, all) in
           let e = get-some L p (omega (arith, g.right)) in
           let whole = split_at p L e.0 e.1 in
-          let f = may_follow cluster_meaning (take p L) e.0 (drop (suc p) L) (subst (λ l. Sound cluster_meaning l) (sym whole) (the_list_sound n nodes events past w run L one)) (subst (λ l. Rising l) (sym whole) (the_list_rises n nodes events past w run L one)) in
+          let f = may_follow cluster_spec (take p L) e.0 (drop (suc p) L) (subst (λ l. Sound cluster_spec l) (sym whole) (the_list_sound n nodes events past w run L one)) (subst (λ l. Rising l) (sym whole) (the_list_rises n nodes events past w run L one)) in
           let in_log : slice_get v.server.log p ≡ Some e.0 = sym (take_get (suc p) v.server.log p (omega arith)) ∙ (ap (λ l. slice_get l p) g.same ∙ (take_get (suc p) L p (omega arith) ∙ e.1)) in
           let follows : MayFollow (state k x) e.0 = record {
             term = subst (λ j. last_term (take j L) ≤ e.0.term) (sym was) f.term;
@@ -354,8 +354,8 @@ module _ (n : ℕ) (nodes : List NodeSpec) (events : List Event) (past : List Wo
         is_state =
             let a = at_log k x at i s.raft (get_map raft_part x.servers i s here) in
             let agree = one.agrees k i s.raft a in
-            let sound : Sound cluster_meaning (take s.raft.commit s.raft.log) = subst (Sound cluster_meaning) (sym agree.same) (first_sound cluster_meaning s.raft.commit L (the_list_sound n nodes events past w run L one)) in
-            let good = after_good cluster_meaning cluster_lawful (logs_model.commands (take s.raft.commit s.raft.log)) (sound_admitted cluster_meaning (take s.raft.commit s.raft.log) sound) in
+            let sound : Sound cluster_spec (take s.raft.commit s.raft.log) = subst (Sound cluster_spec) (sym agree.same) (first_sound cluster_spec s.raft.commit L (the_list_sound n nodes events past w run L one)) in
+            let good = after_good cluster_spec cluster_lawful (logs_model.commands (take s.raft.commit s.raft.log)) (sound_admitted cluster_spec (take s.raft.commit s.raft.log) sound) in
             state_fits newest (applied_state s.raft) good.state
 
         mirrors : Mirrors s.raft.term (applied_state s.raft) d

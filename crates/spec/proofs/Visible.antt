@@ -8,9 +8,9 @@ use Rattle.raft_model.specs.Logs.{state_after}
 use Rattle.raft_model.specs.Rafts.{is_up}
 use Rattle.raft_model.specs.Chains.{Agree}
 use Rattle.raft_model.proofs.Cases.{bool_cases}
-use Rattle.cluster_model.specs.Words.{no_rows}
-use Rattle.cluster_model.specs.SafeFacts.{Safe}
-use Rattle.cluster_model.specs.ClusterMachine.{cluster_meaning}
+use Rattle.fsm_model.specs.Words.{no_rows}
+use Rattle.fsm_model.specs.SafeFacts.{Safe}
+use Rattle.fsm_model.specs.ClusterMachine.{cluster_spec}
 use Rattle.group_model.specs.Servers.{Server}
 use Rattle.group_model.specs.Worlds as worlds
 use Rattle.group_model.specs.Worlds.{World, Event, Run, agents_from}
@@ -33,7 +33,7 @@ refined_acts n nodes past w g (moves {past = ws} {w = v} {g = old} next h r a s)
 -- what a world shows is what the state shows
 one_state : (L : List (Entry Command)) (s : Server) → Agree s.raft.commit s.raft.log L → option_map (λ j. state_of (take j L)) (last_applied_by s) ≡ state_shown s
 one_state L s a = elim (bool_cases (is_up s.raft.mode)) [
-  | inl b ↦ rw b (ap Some (state_same no_rows (take s.raft.commit L) ∙ ap (λ l. state_after cluster_meaning l) (sym a.same)))
+  | inl b ↦ rw b (ap Some (state_same no_rows (take s.raft.commit L) ∙ ap (λ l. state_after cluster_spec l) (sym a.same)))
   | inr b ↦ rw b refl
 ]
 
@@ -62,4 +62,4 @@ states_safe n nodes events past w run list one k =
     let m = every_run n nodes events past w run in
     let p = safe n (length nodes) m.last (refined_acts n nodes past w m.last m.refines) in
     let same : m.last.log ≡ list = chain_one (logs past) (worlds.raft_of w) m.last.log list m.list one in
-    subst (λ l. Safe (state_after cluster_meaning (take k l))) same (subst (λ s. Safe s) (state_same no_rows (take k m.last.log)) (p.safe k))
+    subst (λ l. Safe (state_after cluster_spec (take k l))) same (subst (λ s. Safe s) (state_same no_rows (take k m.last.log)) (p.safe k))

@@ -1,7 +1,7 @@
 -- The specification of a replicated log, of any machine: one log, of which each server has applied
 -- some first entries.
 use Rattle.std.specs.Prelude.{◌≡◌, ℕ, ◌≤◌, Option, Some, None, List, [], ◌∷◌, ◌++◌, length, map, replicate, slice_get, slice_set, if◌then◌else◌}
-use Rattle.machine_model.specs.Meaning.{Meaning, IsCommandOf}
+use Rattle.machine_model.specs.MachineSpec.{MachineSpec, IsCommandOf}
 use Rattle.machine_model.specs.declared.entry.Entry.{Entry}
 use Rattle.raft_model.specs.Logs.{last_term, state_after}
 use Rattle.raft_model.specs.Rafts.{Raft, is_up}
@@ -18,7 +18,7 @@ pub record LogState (C : Type 0) : Type 0 where
 abbrev pub init : {C : Type 0} → ℕ → LogState C
 init servers = record { log = []; last_applied = replicate servers (Some 0) }
 
-module _ {S C : Type 0} (m : Meaning S C) where
+module _ {S C : Type 0} (m : MachineSpec S C) where
   -- what may be appended: an entry of the last term or a later one, whose command is within its
   -- limits and which the state after the whole log admits
   pub record MayFollow (log : List (Entry C)) (e : Entry C) : Type 0 where
@@ -51,11 +51,11 @@ pub record Shows {C : Type 0} (w : World C) (g : LogState C) : Type 0 where
 
 -- The worlds of a run, one by one, are shown by states of the specification: the first world by its
 -- first state, and each next one by a state to which its actions lead. The last one shows g.
-pub data Refines {S C : Type 0} (m : Meaning S C) (n : ℕ) : List (World C) → World C → LogState C → Type 0 where
+pub data Refines {S C : Type 0} (m : MachineSpec S C) (n : ℕ) : List (World C) → World C → LogState C → Type 0 where
   begins : Shows {C = C} (first n) (init n) → Refines m n [] (first n) (init n)
   moves : {past : List (World C)} {w : World C} {g : LogState C} (next : World C) (h : LogState C) →
       Refines m n past w g → Actions m g h → Shows next h → Refines m n (past ++ w ∷ []) next h
 
 -- each run is one of the specification
-abbrev pub RefinesLog : {S C : Type 0} → Meaning S C → ℕ → List (World C) → World C → Type 0
+abbrev pub RefinesLog : {S C : Type 0} → MachineSpec S C → ℕ → List (World C) → World C → Type 0
 RefinesLog m n past w = (g : LogState _) × Refines m n past w g

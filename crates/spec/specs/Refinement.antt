@@ -11,7 +11,7 @@ use Rattle.group_model.specs.Agents.{Agent}
 use Rattle.group_model.specs.Worlds.{World, first}
 use Rattle.group_safety.specs.Claims.{OneList}
 use Rattle.group_safety.specs.Deliveries.{deliveries, token_in}
-use Rattle.cluster_model.specs.Words.{State}
+use Rattle.fsm_model.specs.Words.{State}
 use Rattle.spec.specs.Spec.{SpecState, init, Actions}
 use Rattle.spec.specs.Visible.{Visible, Behavior}
 

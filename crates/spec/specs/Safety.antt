@@ -10,8 +10,8 @@ use Rattle.rows.specs.declared.command.AcceptedPlace.{AcceptedPlace}
 use Rattle.rows.specs.declared.command.Command.{Command}
 use Rattle.rows.specs.declared.command.Command.TheVariants as commands
 use Rattle.machine_model.specs.declared.entry.Entry.{Entry}
-use Rattle.cluster_model.specs.Words.{is_pending}
-use Rattle.cluster_model.specs.SafeFacts.{Safe}
+use Rattle.fsm_model.specs.Words.{is_pending}
+use Rattle.fsm_model.specs.SafeFacts.{Safe}
 use Rattle.spec.specs.Spec.{SpecState, init, state_of, Action, Actions}
 
 -- entry p, from 0, is this plan, of this term

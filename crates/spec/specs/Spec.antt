@@ -21,9 +21,9 @@ use Rattle.rows.specs.declared.command.Command.{Command}
 use Rattle.rows.specs.declared.command.Command.TheVariants as commands
 use Rattle.machine_model.specs.declared.entry.Entry.{Entry}
 use Rattle.raft_model.specs.Logs.{last_term}
-use Rattle.cluster_model.specs.Words.{State, no_rows, same_eval, is_pending}
-use Rattle.cluster_model.specs.Effect.{applied}
-use Rattle.cluster_model.specs.Admission.{admission}
+use Rattle.fsm_model.specs.Words.{State, no_rows, same_eval, is_pending}
+use Rattle.fsm_model.specs.Effect.{applied}
+use Rattle.fsm_model.specs.Admission.{admission}
 
 -- Servers stand at their numbers from 0, the client of node m at place m - 1.
 pub record SpecState : Type 0 where

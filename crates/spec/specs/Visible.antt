@@ -3,7 +3,7 @@ use Rattle.std.specs.Prelude.{ℕ, Option, option_map, List, [], ◌∷◌, ◌+
 use Rattle.rows.specs.declared.evaluation.EvalId.{EvalId}
 use Rattle.rows.specs.declared.allocation.AllocId.{AllocId}
 use Rattle.rows.specs.declared.token.Token.{Token}
-use Rattle.cluster_model.specs.Words.{State}
+use Rattle.fsm_model.specs.Words.{State}
 use Rattle.spec.specs.Spec.{SpecState, init, state_of, Actions}
 
 -- the state of each server, none while it is down; the allocations that each client ever started;

@@ -56,5 +56,5 @@ pub fn safe_states_follow()
 
 /// Every run of a replicated log, whichever machine it carries, refines the log's specification.
 pub fn every_log_refines_its_spec<M: Machine>()
-    ensures { raft_claims.EachRun M.meaning (λ n events past w. RefinesLog M.meaning n past w) }
+    ensures { raft_claims.EachRun M.spec (λ n events past w. RefinesLog M.spec n past w) }
 {}

@@ -7,7 +7,7 @@ use Rattle.rows.specs.declared.refusal.Refusal.{Refusal}
 use Rattle.fields_model.specs.Format.{Gives, ◌>>=◌, Format, spelled, number_at, number, IsBytes, Lawful}
 use Rattle.fields_model.proofs.FormatLaws.{bind_ok, guard_in, past, length-spelled, number_lawful}
 use Rattle.fields_model.proofs.WholeTexts.{no_text_begins_another}
-use Rattle.machine_model.specs.Meaning.{Meaning, LawfulMachine}
+use Rattle.machine_model.specs.MachineSpec.{MachineSpec, LawfulMachine}
 use Rattle.rows.specs.declared.actor.Actor.{Actor}
 use Rattle.wire.specs.declared.header.Header.{Header}
 use Rattle.wire.specs.declared.body.Body.{Body}
@@ -80,41 +80,41 @@ frame_only head bodies make lh lb four bytes h b holds short =
 
 -- ---- messages
 
-pub body_within : {S C : Type 0} (meaning : Meaning S C) → LawfulMachine meaning → (b : Body S C) → (body meaning (kind_of b)).Fits b → length ((body meaning (kind_of b)).text b) ≤ 16777208
-body_within meaning law b fits = omega (arith, (body_lawful meaning law (kind_of b)).short b fits, body_is_short meaning law (kind_of b))
+pub body_within : {S C : Type 0} (spec : MachineSpec S C) → LawfulMachine spec → (b : Body S C) → (body spec (kind_of b)).Fits b → length ((body spec (kind_of b)).text b) ≤ 16777208
+body_within spec law b fits = omega (arith, (body_lawful spec law (kind_of b)).short b fits, body_is_short spec law (kind_of b))
 
-pub message_is_short : {S C : Type 0} (meaning : Meaning S C) → LawfulMachine meaning → (m : Message S C) → MessageFits meaning m → length (message_text meaning m) ≤ frame_limit
-message_is_short meaning law m fits =
-    omega (arith, frame_length header (λ (h : Header). body meaning h.kind) (header_of m) m.body (header_length (header_of m)), body_within meaning law m.body fits.body_fits)
+pub message_is_short : {S C : Type 0} (spec : MachineSpec S C) → LawfulMachine spec → (m : Message S C) → MessageFits spec m → length (message_text spec m) ≤ frame_limit
+message_is_short spec law m fits =
+    omega (arith, frame_length header (λ (h : Header). body spec h.kind) (header_of m) m.body (header_length (header_of m)), body_within spec law m.body fits.body_fits)
 
-pub message_found : {S C : Type 0} (meaning : Meaning S C) → LawfulMachine meaning → (bytes : List ℕ) (m : Message S C) → IsBytes bytes → message_at meaning bytes ≡ Ok m → MessageFits meaning m × (bytes ≡ message_text meaning m)
+pub message_found : {S C : Type 0} (spec : MachineSpec S C) → LawfulMachine spec → (bytes : List ℕ) (m : Message S C) → IsBytes bytes → message_at spec bytes ≡ Ok m → MessageFits spec m × (bytes ≡ message_text spec m)
 unfolding message_at
-message_found {S} {C} meaning law bytes m fits e =
-    let bodies : Header → Format (Body S C) = λ (h : Header). body meaning h.kind in
+message_found {S} {C} spec law bytes m fits e =
+    let bodies : Header → Format (Body S C) = λ (h : Header). body spec h.kind in
     let make : Header → Body S C → Message S C = λ h b. record { from = h.from; to = h.to; body = b } in
-    let read = bind_ok (frame_at header bodies make bytes) (λ n. cond (agrees meaning n.body) (Ok n) (Err 32)) m e in
-    let passed = guard_in (agrees meaning read.0.body) 32 read.0 m read.2 in
-    let f = frame_found header bodies make header_lawful (λ h. body_lawful meaning law h.kind) header_length bytes m fits (read.1 ∙ ap (λ n. Ok n) passed.1) in
+    let read = bind_ok (frame_at header bodies make bytes) (λ n. cond (agrees spec n.body) (Ok n) (Err 32)) m e in
+    let passed = guard_in (agrees spec read.0.body) 32 read.0 m read.2 in
+    let f = frame_found header bodies make header_lawful (λ h. body_lawful spec law h.kind) header_length bytes m fits (read.1 ∙ ap (λ n. Ok n) passed.1) in
     let h = f.0 in
     let b = f.1 in
     let holds = f.2 in
-    let same : kind_of b ≡ h.kind = body_has_kind meaning h.kind b holds.body_fits in
+    let same : kind_of b ≡ h.kind = body_has_kind spec h.kind b holds.body_fits in
     let made : Message S C = record { from = h.from; to = h.to; body = b } in
     let head_is : h ≡ header_of made = ap (λ k. let made : Header = record { kind = k; from = h.from; to = h.to } in made) (sym same) in
     let moved = subst (λ (g : Header). Holds header bodies bytes g b) head_is holds in
-    let agreed : agrees meaning b ≡ true = ap (λ (n : Message S C). agrees meaning n.body) (f.3 ∙ sym passed.1) ∙ passed.0 in
-    subst (λ (m : Message S C). MessageFits meaning m × (bytes ≡ message_text meaning m)) f.3 (record { header_fits = moved.head_fits; body_fits = moved.body_fits; agrees = agreed }, moved.text)
+    let agreed : agrees spec b ≡ true = ap (λ (n : Message S C). agrees spec n.body) (f.3 ∙ sym passed.1) ∙ passed.0 in
+    subst (λ (m : Message S C). MessageFits spec m × (bytes ≡ message_text spec m)) f.3 (record { header_fits = moved.head_fits; body_fits = moved.body_fits; agrees = agreed }, moved.text)
 
-pub message_only : {S C : Type 0} (meaning : Meaning S C) → LawfulMachine meaning → (m : Message S C) → MessageFits meaning m → message_at meaning (message_text meaning m) ≡ Ok m
+pub message_only : {S C : Type 0} (spec : MachineSpec S C) → LawfulMachine spec → (m : Message S C) → MessageFits spec m → message_at spec (message_text spec m) ≡ Ok m
 unfolding message_at
-message_only {S} {C} meaning law m fits =
-    let read = frame_only header (λ (h : Header). body meaning h.kind) (λ h b. let made : Message S C = record { from = h.from; to = h.to; body = b } in made) header_lawful (λ h. body_lawful meaning law h.kind) header_length (message_text meaning m) (header_of m) m.body
-    (record { head_fits = fits.header_fits; body_fits = fits.body_fits; text = refl }) (body_within meaning law m.body fits.body_fits) in
+message_only {S} {C} spec law m fits =
+    let read = frame_only header (λ (h : Header). body spec h.kind) (λ h b. let made : Message S C = record { from = h.from; to = h.to; body = b } in made) header_lawful (λ h. body_lawful spec law h.kind) header_length (message_text spec m) (header_of m) m.body
+    (record { head_fits = fits.header_fits; body_fits = fits.body_fits; text = refl }) (body_within spec law m.body fits.body_fits) in
     rw (read, fits.agrees) refl
 
-pub found_of : {S C : Type 0} (meaning : Meaning S C) → LawfulMachine meaning → (bytes : List ℕ) (r : Result (Message S C) Refusal) → IsBytes bytes → Gives r (message_at meaning bytes) → IfOk r (λ m. MessageFits meaning m × (bytes ≡ message_text meaning m))
-found_of meaning law bytes (Ok m) fits given = message_found meaning law bytes m fits given
-found_of meaning law bytes (Err e) fits given = tt
+pub found_of : {S C : Type 0} (spec : MachineSpec S C) → LawfulMachine spec → (bytes : List ℕ) (r : Result (Message S C) Refusal) → IsBytes bytes → Gives r (message_at spec bytes) → IfOk r (λ m. MessageFits spec m × (bytes ≡ message_text spec m))
+found_of spec law bytes (Ok m) fits given = message_found spec law bytes m fits given
+found_of spec law bytes (Err e) fits given = tt
 
 -- ---- no frame begins another
 
@@ -135,16 +135,16 @@ same_message {S} {C} m n f t b =
 frame_parts : {H B : Type 0} (head : Format H) (bodies : H → Format B) (h : H) (b : B) (x : List ℕ) → frame_text head bodies h b ++ x ≡ head.text h ++ (spelled 4 (length ((bodies h).text b)) ++ ((bodies h).text b ++ x))
 frame_parts head bodies h b x = simp append_assoc
 
-pub frames_apart : {S C : Type 0} (meaning : Meaning S C) → LawfulMachine meaning → (m n : Message S C) (x y : List ℕ) → MessageFits meaning m → MessageFits meaning n → message_text meaning m ++ x ≡ message_text meaning n ++ y → m ≡ n
-frames_apart {S} {C} meaning law m n x y fm fn e =
-    let bodies : Header → Format (Body S C) = λ (h : Header). body meaning h.kind in
+pub frames_apart : {S C : Type 0} (spec : MachineSpec S C) → LawfulMachine spec → (m n : Message S C) (x y : List ℕ) → MessageFits spec m → MessageFits spec n → message_text spec m ++ x ≡ message_text spec n ++ y → m ≡ n
+frames_apart {S} {C} spec law m n x y fm fn e =
+    let bodies : Header → Format (Body S C) = λ (h : Header). body spec h.kind in
     let tm = (bodies (header_of m)).text m.body in
     let tn = (bodies (header_of n)).text n.body in
     let parts = sym (frame_parts header bodies (header_of m) m.body x) ∙ e ∙ frame_parts header bodies (header_of n) n.body y in
     let heads = first_is header header_lawful (header_of m) (header_of n) (spelled 4 (length tm) ++ (tm ++ x)) (spelled 4 (length tn) ++ (tn ++ y)) fm.header_fits fn.header_fits parts in
     let number_is = number_lawful 4 0 (2 ^ 32) (omega arith) (omega arith) in
-    let short_m = body_within meaning law m.body fm.body_fits in
-    let short_n = body_within meaning law n.body fn.body_fits in
+    let short_m = body_within spec law m.body fm.body_fits in
+    let short_n = body_within spec law n.body fn.body_fits in
     let sizes = first_is (number 4 0 (2 ^ 32)) number_is (length tm) (length tn) (tm ++ x) (tn ++ y) (omega arith, omega arith) (omega arith, omega arith) heads.1 in
-    let same = same_body bodies (λ h. body_lawful meaning law h.kind) (header_of m) (header_of n) m.body n.body x y heads.0 fm.body_fits fn.body_fits sizes.1 in
+    let same = same_body bodies (λ h. body_lawful spec law h.kind) (header_of m) (header_of n) m.body n.body x y heads.0 fm.body_fits fn.body_fits sizes.1 in
     same_message m n (ap (λ (h : Header). h.from) heads.0) (ap (λ (h : Header). h.to) heads.0) same

@@ -7,7 +7,7 @@ use Rattle.fields_model.proofs.FormatLaws.{number_lawful, then_lawful, depends_l
 use Rattle.fields_model.proofs.PlacedLaws.{placed_lawful}
 use Rattle.fields_model.proofs.FieldLaws.{actor_lawful, term_lawful}
 use Rattle.fields_model.proofs.IdLaws.{from_one_lawful}
-use Rattle.machine_model.specs.Meaning.{Meaning, LawfulMachine}
+use Rattle.machine_model.specs.MachineSpec.{MachineSpec, LawfulMachine}
 use Rattle.rows.specs.Versions.{newest}
 use Rattle.wire.specs.declared.kind.Kind.{Kind}
 use Rattle.wire.specs.declared.kind.Kind.TheVariants as kinds
@@ -100,87 +100,87 @@ is_install_reply {S} {C} = record { back = λ _. refl; there = λ v a e. there v
   there (bodies.InstallReply _) a e = cc
   there _ a e = absurd cc
 
-pub body_lawful : {S C : Type 0} (meaning : Meaning S C) → LawfulMachine meaning → (k : Kind) → Lawful (body meaning k)
-body_lawful meaning law kinds.VoteRequest = variant_lawful _ _ _ is_vote_request vote_request_lawful
-body_lawful meaning law kinds.VoteReply = variant_lawful _ _ _ is_vote_reply vote_reply_lawful
-body_lawful meaning law kinds.Append = variant_lawful _ _ _ is_append (append_lawful (meaning.commands newest) (law.commands_lawful newest))
-body_lawful meaning law kinds.AppendReply = variant_lawful _ _ _ is_append_reply append_reply_lawful
-body_lawful meaning law kinds.Install = variant_lawful _ _ _ is_install (install_lawful (meaning.states newest) (law.states_lawful newest))
-body_lawful meaning law kinds.InstallReply = variant_lawful _ _ _ is_install_reply install_reply_lawful
-body_lawful meaning law kinds.Take = take_body_lawful
-body_lawful meaning law kinds.Delivered = delivered_body_lawful
-body_lawful meaning law kinds.Submit = submit_body_lawful
-body_lawful meaning law kinds.PlanResult = plan_result_body_lawful
-body_lawful meaning law kinds.Finish = finish_body_lawful
-body_lawful meaning law kinds.Nack = nack_body_lawful
-body_lawful meaning law kinds.Refused = refused_body_lawful
-body_lawful meaning law kinds.Register = register_body_lawful
-body_lawful meaning law kinds.Heartbeat = heartbeat_body_lawful
-body_lawful meaning law kinds.Pull = pull_body_lawful
-body_lawful meaning law kinds.List = list_body_lawful
-body_lawful meaning law kinds.Report = report_body_lawful
-body_lawful meaning law kinds.Told = told_body_lawful
+pub body_lawful : {S C : Type 0} (spec : MachineSpec S C) → LawfulMachine spec → (k : Kind) → Lawful (body spec k)
+body_lawful spec law kinds.VoteRequest = variant_lawful _ _ _ is_vote_request vote_request_lawful
+body_lawful spec law kinds.VoteReply = variant_lawful _ _ _ is_vote_reply vote_reply_lawful
+body_lawful spec law kinds.Append = variant_lawful _ _ _ is_append (append_lawful (spec.commands newest) (law.commands_lawful newest))
+body_lawful spec law kinds.AppendReply = variant_lawful _ _ _ is_append_reply append_reply_lawful
+body_lawful spec law kinds.Install = variant_lawful _ _ _ is_install (install_lawful (spec.states newest) (law.states_lawful newest))
+body_lawful spec law kinds.InstallReply = variant_lawful _ _ _ is_install_reply install_reply_lawful
+body_lawful spec law kinds.Take = take_body_lawful
+body_lawful spec law kinds.Delivered = delivered_body_lawful
+body_lawful spec law kinds.Submit = submit_body_lawful
+body_lawful spec law kinds.PlanResult = plan_result_body_lawful
+body_lawful spec law kinds.Finish = finish_body_lawful
+body_lawful spec law kinds.Nack = nack_body_lawful
+body_lawful spec law kinds.Refused = refused_body_lawful
+body_lawful spec law kinds.Register = register_body_lawful
+body_lawful spec law kinds.Heartbeat = heartbeat_body_lawful
+body_lawful spec law kinds.Pull = pull_body_lawful
+body_lawful spec law kinds.List = list_body_lawful
+body_lawful spec law kinds.Report = report_body_lawful
+body_lawful spec law kinds.Told = told_body_lawful
 
 -- a body is one of its own kind alone
-pub body_has_kind : {S C : Type 0} (meaning : Meaning S C) (k : Kind) (b : Body S C) → (body meaning k).Fits b → kind_of b ≡ k
-body_has_kind meaning kinds.VoteRequest (bodies.VoteRequest _) fits = refl
-body_has_kind meaning kinds.VoteReply (bodies.VoteReply _) fits = refl
-body_has_kind meaning kinds.Append (bodies.Append _) fits = refl
-body_has_kind meaning kinds.AppendReply (bodies.AppendReply _) fits = refl
-body_has_kind meaning kinds.Install (bodies.Install _) fits = refl
-body_has_kind meaning kinds.InstallReply (bodies.InstallReply _) fits = refl
-body_has_kind meaning kinds.Take (bodies.Request requests.Take) fits = refl
-body_has_kind meaning kinds.Delivered (bodies.Response (responses.Delivered _)) fits = refl
-body_has_kind meaning kinds.Submit (bodies.Request (requests.Submit _)) fits = refl
-body_has_kind meaning kinds.PlanResult (bodies.Response (responses.PlanResult _)) fits = refl
-body_has_kind meaning kinds.Finish (bodies.Request (requests.Finish _ _ _)) fits = refl
-body_has_kind meaning kinds.Nack (bodies.Request (requests.Nack _ _)) fits = refl
-body_has_kind meaning kinds.Refused (bodies.Response (responses.Refused _ _)) fits = refl
-body_has_kind meaning kinds.Register (bodies.Register _ _) fits = refl
-body_has_kind meaning kinds.Heartbeat bodies.Heartbeat fits = refl
-body_has_kind meaning kinds.Pull bodies.Pull fits = refl
-body_has_kind meaning kinds.List (bodies.List _ _) fits = refl
-body_has_kind meaning kinds.Report (bodies.Report _) fits = refl
-body_has_kind meaning kinds.Told (bodies.Told _ _) fits = refl
-body_has_kind meaning kinds.VoteRequest _ fits = absurd fits
-body_has_kind meaning kinds.VoteReply _ fits = absurd fits
-body_has_kind meaning kinds.Append _ fits = absurd fits
-body_has_kind meaning kinds.AppendReply _ fits = absurd fits
-body_has_kind meaning kinds.Install _ fits = absurd fits
-body_has_kind meaning kinds.InstallReply _ fits = absurd fits
-body_has_kind meaning kinds.Take _ fits = absurd fits
-body_has_kind meaning kinds.Delivered _ fits = absurd fits
-body_has_kind meaning kinds.Submit _ fits = absurd fits
-body_has_kind meaning kinds.PlanResult _ fits = absurd fits
-body_has_kind meaning kinds.Finish _ fits = absurd fits
-body_has_kind meaning kinds.Nack _ fits = absurd fits
-body_has_kind meaning kinds.Refused _ fits = absurd fits
-body_has_kind meaning kinds.Register _ fits = absurd fits
-body_has_kind meaning kinds.Heartbeat _ fits = absurd fits
-body_has_kind meaning kinds.Pull _ fits = absurd fits
-body_has_kind meaning kinds.List _ fits = absurd fits
-body_has_kind meaning kinds.Report _ fits = absurd fits
-body_has_kind meaning kinds.Told _ fits = absurd fits
+pub body_has_kind : {S C : Type 0} (spec : MachineSpec S C) (k : Kind) (b : Body S C) → (body spec k).Fits b → kind_of b ≡ k
+body_has_kind spec kinds.VoteRequest (bodies.VoteRequest _) fits = refl
+body_has_kind spec kinds.VoteReply (bodies.VoteReply _) fits = refl
+body_has_kind spec kinds.Append (bodies.Append _) fits = refl
+body_has_kind spec kinds.AppendReply (bodies.AppendReply _) fits = refl
+body_has_kind spec kinds.Install (bodies.Install _) fits = refl
+body_has_kind spec kinds.InstallReply (bodies.InstallReply _) fits = refl
+body_has_kind spec kinds.Take (bodies.Request requests.Take) fits = refl
+body_has_kind spec kinds.Delivered (bodies.Response (responses.Delivered _)) fits = refl
+body_has_kind spec kinds.Submit (bodies.Request (requests.Submit _)) fits = refl
+body_has_kind spec kinds.PlanResult (bodies.Response (responses.PlanResult _)) fits = refl
+body_has_kind spec kinds.Finish (bodies.Request (requests.Finish _ _ _)) fits = refl
+body_has_kind spec kinds.Nack (bodies.Request (requests.Nack _ _)) fits = refl
+body_has_kind spec kinds.Refused (bodies.Response (responses.Refused _ _)) fits = refl
+body_has_kind spec kinds.Register (bodies.Register _ _) fits = refl
+body_has_kind spec kinds.Heartbeat bodies.Heartbeat fits = refl
+body_has_kind spec kinds.Pull bodies.Pull fits = refl
+body_has_kind spec kinds.List (bodies.List _ _) fits = refl
+body_has_kind spec kinds.Report (bodies.Report _) fits = refl
+body_has_kind spec kinds.Told (bodies.Told _ _) fits = refl
+body_has_kind spec kinds.VoteRequest _ fits = absurd fits
+body_has_kind spec kinds.VoteReply _ fits = absurd fits
+body_has_kind spec kinds.Append _ fits = absurd fits
+body_has_kind spec kinds.AppendReply _ fits = absurd fits
+body_has_kind spec kinds.Install _ fits = absurd fits
+body_has_kind spec kinds.InstallReply _ fits = absurd fits
+body_has_kind spec kinds.Take _ fits = absurd fits
+body_has_kind spec kinds.Delivered _ fits = absurd fits
+body_has_kind spec kinds.Submit _ fits = absurd fits
+body_has_kind spec kinds.PlanResult _ fits = absurd fits
+body_has_kind spec kinds.Finish _ fits = absurd fits
+body_has_kind spec kinds.Nack _ fits = absurd fits
+body_has_kind spec kinds.Refused _ fits = absurd fits
+body_has_kind spec kinds.Register _ fits = absurd fits
+body_has_kind spec kinds.Heartbeat _ fits = absurd fits
+body_has_kind spec kinds.Pull _ fits = absurd fits
+body_has_kind spec kinds.List _ fits = absurd fits
+body_has_kind spec kinds.Report _ fits = absurd fits
+body_has_kind spec kinds.Told _ fits = absurd fits
 
 -- no body is longer than a frame has room for, since no state is longer than 16,000,000 bytes, and no
 -- command than 65,536
-pub body_is_short : {S C : Type 0} (meaning : Meaning S C) → LawfulMachine meaning → (k : Kind) → (body meaning k).most ≤ 16777208
-body_is_short meaning law kinds.VoteRequest = omega arith
-body_is_short meaning law kinds.VoteReply = omega arith
-body_is_short meaning law kinds.Append = omega (arith, law.commands_short newest)
-body_is_short meaning law kinds.AppendReply = omega arith
-body_is_short meaning law kinds.Install = omega (arith, law.states_short newest)
-body_is_short meaning law kinds.InstallReply = omega arith
-body_is_short meaning law kinds.Take = omega arith
-body_is_short meaning law kinds.Delivered = omega arith
-body_is_short meaning law kinds.Submit = omega arith
-body_is_short meaning law kinds.PlanResult = omega arith
-body_is_short meaning law kinds.Finish = omega arith
-body_is_short meaning law kinds.Nack = omega arith
-body_is_short meaning law kinds.Refused = omega arith
-body_is_short meaning law kinds.Register = omega arith
-body_is_short meaning law kinds.Heartbeat = omega arith
-body_is_short meaning law kinds.Pull = omega arith
-body_is_short meaning law kinds.List = omega arith
-body_is_short meaning law kinds.Report = omega arith
-body_is_short meaning law kinds.Told = omega arith
+pub body_is_short : {S C : Type 0} (spec : MachineSpec S C) → LawfulMachine spec → (k : Kind) → (body spec k).most ≤ 16777208
+body_is_short spec law kinds.VoteRequest = omega arith
+body_is_short spec law kinds.VoteReply = omega arith
+body_is_short spec law kinds.Append = omega (arith, law.commands_short newest)
+body_is_short spec law kinds.AppendReply = omega arith
+body_is_short spec law kinds.Install = omega (arith, law.states_short newest)
+body_is_short spec law kinds.InstallReply = omega arith
+body_is_short spec law kinds.Take = omega arith
+body_is_short spec law kinds.Delivered = omega arith
+body_is_short spec law kinds.Submit = omega arith
+body_is_short spec law kinds.PlanResult = omega arith
+body_is_short spec law kinds.Finish = omega arith
+body_is_short spec law kinds.Nack = omega arith
+body_is_short spec law kinds.Refused = omega arith
+body_is_short spec law kinds.Register = omega arith
+body_is_short spec law kinds.Heartbeat = omega arith
+body_is_short spec law kinds.Pull = omega arith
+body_is_short spec law kinds.List = omega arith
+body_is_short spec law kinds.Report = omega arith
+body_is_short spec law kinds.Told = omega arith

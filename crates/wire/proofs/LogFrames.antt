@@ -10,7 +10,7 @@ use Rattle.rows.specs.declared.actor.Actor.TheVariants.{Server, Client}
 use Rattle.fields_model.specs.Format.{Reading, ◌>>=◌, Answers, Gives, Refuses, IsBytes, spelled, number_at}
 use Rattle.fields_model.specs.Fields.{actor}
 use Rattle.fields_model.proofs.FormatLaws.{bind_ok, guard_in, past, length-spelled, number_lawful}
-use Rattle.machine_model.specs.Meaning.{Meaning, LawfulMachine}
+use Rattle.machine_model.specs.MachineSpec.{MachineSpec, LawfulMachine}
 use Rattle.wire.specs.declared.kind.Kind.{Kind}
 use Rattle.wire.specs.declared.kind.Kind.TheVariants as kinds
 use Rattle.wire.specs.declared.header.Header.{Header}
@@ -41,31 +41,31 @@ header_named kinds bytes h at fits read =
     let stands = header_lawful.found bytes 0 h at fits read in
     kind_named kinds bytes h (drop at bytes) stands.fits stands.here
 
-pub named_of : {S C : Type 0} (meaning : Meaning S C) → LawfulMachine meaning → (bytes : List ℕ) (r : Result (Message S C) Refusal) → IsBytes bytes → Gives r (message_at meaning bytes) → IfOk r (λ m. is_of_log (kind_of m.body) ≡ is_log_frame bytes)
-named_of meaning law bytes (Ok m) fits given =
-    let found = message_found meaning law bytes m fits given in
+pub named_of : {S C : Type 0} (spec : MachineSpec S C) → LawfulMachine spec → (bytes : List ℕ) (r : Result (Message S C) Refusal) → IsBytes bytes → Gives r (message_at spec bytes) → IfOk r (λ m. is_of_log (kind_of m.body) ≡ is_log_frame bytes)
+named_of spec law bytes (Ok m) fits given =
+    let found = message_found spec law bytes m fits given in
     kind_named is_of_log bytes (header_of m) _ found.0.header_fits found.1
-named_of meaning law bytes (Err e) fits given = tt
+named_of spec law bytes (Err e) fits given = tt
 
 -- ---- when memory may be lacking
 
 -- what lacks memory for a reason, if at all, gives
-pub gives_of : {A : Type 0} (MayLack : Type 0) (r : Result A Refusal) (reading : Result A ℕ) → Answers MayLack r reading → Gives r reading
-gives_of MayLack (Ok x) reading given = given
-gives_of MayLack (Err refusals.NoMemory) reading given = tt
-gives_of MayLack (Err (refusals.Frame place)) reading given = given
-gives_of MayLack (Err _) reading given = absurd given
+pub gives_of : {A : Type 0} (MayEndOutOfMemory : Type 0) (r : Result A Refusal) (reading : Result A ℕ) → Answers MayEndOutOfMemory r reading → Gives r reading
+gives_of MayEndOutOfMemory (Ok x) reading given = given
+gives_of MayEndOutOfMemory (Err refusals.NoMemory) reading given = tt
+gives_of MayEndOutOfMemory (Err (refusals.Frame place)) reading given = given
+gives_of MayEndOutOfMemory (Err _) reading given = absurd given
 
 -- and where it lacks memory, it has the reason
-pub reason_of : {A : Type 0} (MayLack : Type 0) (r : Result A Refusal) (reading : Result A ℕ) → Answers MayLack r reading → IfErr r (λ e. e ≡ refusals.NoMemory → MayLack)
-reason_of MayLack (Ok x) reading given = tt
-reason_of MayLack (Err e) reading given = λ is. subst (λ cause. Refuses MayLack cause reading) is given
+pub reason_of : {A : Type 0} (MayEndOutOfMemory : Type 0) (r : Result A Refusal) (reading : Result A ℕ) → Answers MayEndOutOfMemory r reading → IfErr r (λ e. e ≡ refusals.NoMemory → MayEndOutOfMemory)
+reason_of MayEndOutOfMemory (Ok x) reading given = tt
+reason_of MayEndOutOfMemory (Err e) reading given = λ is. subst (λ cause. Refuses MayEndOutOfMemory cause reading) is given
 
 -- where each fault of one reading is one of another, so is each refusal
-pub refuses_along : {A B : Type 0} (MayLack : Type 0) (cause : Refusal) (x : Result A ℕ) (y : Result B ℕ) → ((p : ℕ) → x ≡ Err p → y ≡ Err p) → Refuses MayLack cause x → Refuses MayLack cause y
-refuses_along MayLack refusals.NoMemory x y f given = given
-refuses_along MayLack (refusals.Frame place) x y f given = f place given
-refuses_along MayLack _ x y f given = absurd given
+pub refuses_along : {A B : Type 0} (MayEndOutOfMemory : Type 0) (cause : Refusal) (x : Result A ℕ) (y : Result B ℕ) → ((p : ℕ) → x ≡ Err p → y ≡ Err p) → Refuses MayEndOutOfMemory cause x → Refuses MayEndOutOfMemory cause y
+refuses_along MayEndOutOfMemory refusals.NoMemory x y f given = given
+refuses_along MayEndOutOfMemory (refusals.Frame place) x y f given = f place given
+refuses_along MayEndOutOfMemory _ x y f given = absurd given
 
 -- ---- the fault of a body is that of the frame
 
@@ -86,20 +86,20 @@ test_fault : {A B : Type 0} (u : Bool) (x : A) (y : B) (k j p : ℕ) → k ≡ j
 test_fault true x y k j p same e = absurd cc
 test_fault false x y k j p same e = let is : k ≡ p = cc in cc
 
-message_fault : {S C : Type 0} (meaning : Meaning S C) (bytes : List ℕ) (h : Header) (at p : ℕ) (r : Reading (Body S C)) → at ≡ 8 → finished meaning bytes at r ≡ Err p →
-    (r >>= (λ b. cond (eqb b.1 (length bytes)) (Ok (made h b.0)) (Err b.1)) >>= λ m. cond (agrees meaning m.body) (Ok m) (Err 32)) ≡ Err p
-message_fault meaning bytes h at p (Err q) place fault = let is : q ≡ p = cc in cc
-message_fault meaning bytes h at p (Ok b) place fault =
-    elim (eqb b.1 (length bytes)) as (λ t. (cond t (Ok b.0) (Err b.1) >>= λ x. cond (agrees meaning x) (Ok x) (Err (at + 24))) ≡ Err p → (cond t (Ok (made h b.0)) (Err b.1) >>= λ m. cond (agrees meaning m.body) (Ok m) (Err 32)) ≡ Err p) [
-      | true ↦ test_fault (agrees meaning b.0) b.0 (made h b.0) (at + 24) 32 p (omega (arith, place))
+message_fault : {S C : Type 0} (spec : MachineSpec S C) (bytes : List ℕ) (h : Header) (at p : ℕ) (r : Reading (Body S C)) → at ≡ 8 → finished spec bytes at r ≡ Err p →
+    (r >>= (λ b. cond (eqb b.1 (length bytes)) (Ok (made h b.0)) (Err b.1)) >>= λ m. cond (agrees spec m.body) (Ok m) (Err 32)) ≡ Err p
+message_fault spec bytes h at p (Err q) place fault = let is : q ≡ p = cc in cc
+message_fault spec bytes h at p (Ok b) place fault =
+    elim (eqb b.1 (length bytes)) as (λ t. (cond t (Ok b.0) (Err b.1) >>= λ x. cond (agrees spec x) (Ok x) (Err (at + 24))) ≡ Err p → (cond t (Ok (made h b.0)) (Err b.1) >>= λ m. cond (agrees spec m.body) (Ok m) (Err 32)) ≡ Err p) [
+      | true ↦ test_fault (agrees spec b.0) b.0 (made h b.0) (at + 24) 32 p (omega (arith, place))
       | false ↦ λ e. let is : b.1 ≡ p = cc in cc
     ] fault
 
-pub fault_of_body : {S C : Type 0} (meaning : Meaning S C) (bytes : List ℕ) (h : Header) (next size at p : ℕ) → IsBytes bytes → header.read bytes 0 ≡ Ok (h, next) → size_at bytes next ≡ Ok (size, at)
-    → finished meaning bytes at ((body meaning h.kind).read bytes at) ≡ Err p → message_at meaning bytes ≡ Err p
+pub fault_of_body : {S C : Type 0} (spec : MachineSpec S C) (bytes : List ℕ) (h : Header) (next size at p : ℕ) → IsBytes bytes → header.read bytes 0 ≡ Ok (h, next) → size_at bytes next ≡ Ok (size, at)
+    → finished spec bytes at ((body spec h.kind).read bytes at) ≡ Err p → message_at spec bytes ≡ Err p
 unfolding message_at
-fault_of_body meaning bytes h next size at p fits head sized fault =
-    rw (head, sized) (message_fault meaning bytes h at p ((body meaning h.kind).read bytes at) (body_place bytes h next size at fits head sized) fault)
+fault_of_body spec bytes h next size at p fits head sized fault =
+    rw (head, sized) (message_fault spec bytes h at p ((body spec h.kind).read bytes at) (body_place bytes h next size at fits head sized) fault)
 
 -- ---- between whom such messages go
 

@@ -2,7 +2,7 @@
 use Rattle.std.specs.Prelude.{◌≡◌, ℕ, ◌+◌, ◌^◌, Bool, true, false, List, [], ◌∷◌, ◌++◌, length, Result, Ok, Err, ◌&&◌, nat_eq, nat_le, if◌then◌else◌}
 use Rattle.fields_model.specs.Format.{Reading, ◌>>=◌, Format, spelled, number_at}
 use Rattle.rows.specs.declared.actor.Actor.{Actor}
-use Rattle.machine_model.specs.Meaning.{Meaning}
+use Rattle.machine_model.specs.MachineSpec.{MachineSpec}
 use Rattle.wire.specs.declared.kind.Kind.{Kind}
 use Rattle.wire.specs.declared.header.Header.{Header}
 use Rattle.wire.specs.declared.body.Body.{Body}
@@ -40,35 +40,35 @@ abbrev pub header_of : {S C : Type 0} → Message S C → Header
 header_of m = record { kind = kind_of m.body; from = m.from; to = m.to }
 
 -- the one frame of a message
-abbrev pub message_text : {S C : Type 0} → Meaning S C → Message S C → List ℕ
-message_text meaning m = frame_text header (λ h. body meaning h.kind) (header_of m) m.body
+abbrev pub message_text : {S C : Type 0} → MachineSpec S C → Message S C → List ℕ
+message_text spec m = frame_text header (λ h. body spec h.kind) (header_of m) m.body
 
 -- the state of an Install has seen as many commands as its index says; of other bodies nothing is
 -- asked
-abbrev pub agrees : {S C : Type 0} → Meaning S C → Body S C → Bool
-agrees meaning (bodies.Install i) = nat_eq (meaning.count i.state) i.head.index
-agrees meaning _ = true
+abbrev pub agrees : {S C : Type 0} → MachineSpec S C → Body S C → Bool
+agrees spec (bodies.Install i) = nat_eq (spec.count i.state) i.head.index
+agrees spec _ = true
 
 -- which messages have a frame: each part is within its range, and the body agrees
-pub record MessageFits {S C : Type 0} (meaning : Meaning S C) (m : Message S C) : Type 0 where
+pub record MessageFits {S C : Type 0} (spec : MachineSpec S C) (m : Message S C) : Type 0 where
   pub header_fits : header.Fits (header_of m)
-  pub body_fits : (body meaning (kind_of m.body)).Fits m.body
-  pub agrees : agrees meaning m.body ≡ true
+  pub body_fits : (body spec (kind_of m.body)).Fits m.body
+  pub agrees : agrees spec m.body ≡ true
 
 -- the bytes are the frame of the message, which has one
-abbrev pub IsFrame : {S C : Type 0} → Meaning S C → Message S C → List ℕ → Type 0
-IsFrame meaning m bytes = MessageFits meaning m × (bytes ≡ message_text meaning m)
+abbrev pub IsFrame : {S C : Type 0} → MachineSpec S C → Message S C → List ℕ → Type 0
+IsFrame spec m bytes = MessageFits spec m × (bytes ≡ message_text spec m)
 
 -- the frame of the message, which has one, comes to the end of the bytes
-abbrev pub AddsFrame : {S C : Type 0} → Meaning S C → Message S C → List ℕ → List ℕ → Type 0
-AddsFrame meaning m old new = MessageFits meaning m × (new ≡ old ++ message_text meaning m)
+abbrev pub AddsFrame : {S C : Type 0} → MachineSpec S C → Message S C → List ℕ → List ℕ → Type 0
+AddsFrame spec m old new = MessageFits spec m × (new ≡ old ++ message_text spec m)
 
 -- the message of a frame, or the place of its first fault; where all of the bytes are read, and the
 -- body does not agree, its state is at fault, which begins at 32
-unfoldable pub message_at : {S C : Type 0} → Meaning S C → List ℕ → Result (Message S C) ℕ
-message_at meaning bytes =
-    frame_at header (λ h. body meaning h.kind) (λ h b. record { from = h.from; to = h.to; body = b }) bytes
-    >>= λ m. if agrees meaning m.body then Ok m else Err 32
+unfoldable pub message_at : {S C : Type 0} → MachineSpec S C → List ℕ → Result (Message S C) ℕ
+message_at spec bytes =
+    frame_at header (λ h. body spec h.kind) (λ h b. record { from = h.from; to = h.to; body = b }) bytes
+    >>= λ m. if agrees spec m.body then Ok m else Err 32
 
 -- what was read is one of these kinds
 abbrev pub reads_one_of : (Kind → Bool) → Reading Kind → Bool
@@ -88,9 +88,9 @@ pub record Frame : Type 0 where
   pub to : Actor
   pub bytes : List ℕ
 
-abbrev pub frame_of : {S C : Type 0} → Meaning S C → Message S C → Frame
-frame_of meaning m = record { to = m.to; bytes = message_text meaning m }
+abbrev pub frame_of : {S C : Type 0} → MachineSpec S C → Message S C → Frame
+frame_of spec m = record { to = m.to; bytes = message_text spec m }
 
 -- the frame of the message, which has one, comes to the end of the frames
-abbrev pub ListsFrame : {S C : Type 0} → Meaning S C → Message S C → List Frame → List Frame → Type 0
-ListsFrame meaning m old new = MessageFits meaning m × (new ≡ old ++ frame_of meaning m ∷ [])
+abbrev pub ListsFrame : {S C : Type 0} → MachineSpec S C → Message S C → List Frame → List Frame → Type 0
+ListsFrame spec m old new = MessageFits spec m × (new ≡ old ++ frame_of spec m ∷ [])

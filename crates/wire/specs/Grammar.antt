@@ -5,7 +5,7 @@ use Rattle.fields_model.specs.Fields.{term, index, bool, actor}
 use Rattle.fields_model.specs.Ids.{from_one}
 use Rattle.rows.specs.Versions.{newest}
 use Rattle.rows.specs.declared.actor.Actor.{Actor}
-use Rattle.machine_model.specs.Meaning.{Meaning}
+use Rattle.machine_model.specs.MachineSpec.{MachineSpec}
 use Rattle.machine_model.specs.declared.entry.Entry.{Entry}
 use Rattle.machine_model.specs.Entries.{entry}
 use Rattle.wire.specs.declared.kind.Kind.{Kind}
@@ -157,23 +157,23 @@ install_reply_of (bodies.InstallReply v) = Some v
 install_reply_of _ = None
 
 -- what stands behind the header of each kind
-abbrev pub body : {S C : Type 0} → Meaning S C → Kind → Format (Body S C)
-body meaning kinds.VoteRequest = variant (λ v. bodies.VoteRequest v) vote_request_of vote_request
-body meaning kinds.VoteReply = variant (λ v. bodies.VoteReply v) vote_reply_of vote_reply
-body meaning kinds.Append = variant (λ v. bodies.Append v) append_of (append (meaning.commands newest))
-body meaning kinds.AppendReply = variant (λ v. bodies.AppendReply v) append_reply_of append_reply
-body meaning kinds.Install = variant (λ v. bodies.Install v) install_of (install (meaning.states newest))
-body meaning kinds.InstallReply = variant (λ v. bodies.InstallReply v) install_reply_of install_reply
-body meaning kinds.Take = take_body
-body meaning kinds.Delivered = delivered_body
-body meaning kinds.Submit = submit_body
-body meaning kinds.PlanResult = plan_result_body
-body meaning kinds.Finish = finish_body
-body meaning kinds.Nack = nack_body
-body meaning kinds.Refused = refused_body
-body meaning kinds.Register = register_body
-body meaning kinds.Heartbeat = heartbeat_body
-body meaning kinds.Pull = pull_body
-body meaning kinds.List = list_body
-body meaning kinds.Report = report_body
-body meaning kinds.Told = told_body
+abbrev pub body : {S C : Type 0} → MachineSpec S C → Kind → Format (Body S C)
+body spec kinds.VoteRequest = variant (λ v. bodies.VoteRequest v) vote_request_of vote_request
+body spec kinds.VoteReply = variant (λ v. bodies.VoteReply v) vote_reply_of vote_reply
+body spec kinds.Append = variant (λ v. bodies.Append v) append_of (append (spec.commands newest))
+body spec kinds.AppendReply = variant (λ v. bodies.AppendReply v) append_reply_of append_reply
+body spec kinds.Install = variant (λ v. bodies.Install v) install_of (install (spec.states newest))
+body spec kinds.InstallReply = variant (λ v. bodies.InstallReply v) install_reply_of install_reply
+body spec kinds.Take = take_body
+body spec kinds.Delivered = delivered_body
+body spec kinds.Submit = submit_body
+body spec kinds.PlanResult = plan_result_body
+body spec kinds.Finish = finish_body
+body spec kinds.Nack = nack_body
+body spec kinds.Refused = refused_body
+body spec kinds.Register = register_body
+body spec kinds.Heartbeat = heartbeat_body
+body spec kinds.Pull = pull_body
+body spec kinds.List = list_body
+body spec kinds.Report = report_body
+body spec kinds.Told = told_body

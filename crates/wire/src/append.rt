@@ -205,7 +205,7 @@ fn read_entries<M: Machine>(
     at: usize,
     most: u8,
 ) -> Result<(Sequence<Entry<Coded<M>>>, usize), Refusal>
-    ensures { Gives result ((entries (M.meaning.commands newest) most).read bytes.now at) }
+    ensures { Gives result ((entries (M.spec.commands newest) most).read bytes.now at) }
 {
     read_list(Version::newest(), alloc, bytes, at, most)
 }
@@ -218,7 +218,7 @@ pub fn read_append<M: Machine>(
     bytes: &[u8],
     at: usize,
 ) -> Result<(Append<M>, usize), Refusal>
-    ensures { Gives result ((append (M.meaning.commands newest)).read bytes.now at) }
+    ensures { Gives result ((append (M.spec.commands newest)).read bytes.now at) }
 {
     let (head, at) = AppendHead::read_at(Version::newest(), alloc, bytes, at)?;
     let (entries, end) = read_entries(alloc, bytes, at, most_entries(head.prev_index))?;
@@ -235,7 +235,7 @@ pub fn append_append<M: Machine>(
 ) -> Result<(), NoMemory>
     requires few { length entries.now ≤ 32 }
     requires places { head.now.prev_index + length entries.now < 2 ^ 40 }
-    ensures { Puts (append (M.meaning.commands newest))
+    ensures { Puts (append (M.spec.commands newest))
         (record { head = head.now; entries = entries.now }) result out.old.items out.new.items }
 {
     head.append(out)?;

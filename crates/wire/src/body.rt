@@ -90,8 +90,8 @@ pub fn read_body<M: Machine>(
     at: usize,
 ) -> Result<(Body<M>, usize), Refusal>
     // Memory is wanted for a kind that holds a list or a state alone.
-    ensures value { AnswersBody M.meaning (takes_memory kind ≡ true) (λ b. b) bytes.now at result
-        ((body M.meaning kind).read bytes.now at) }
+    ensures value { AnswersBody M.spec (takes_memory kind ≡ true) (λ b. b) bytes.now at result
+        ((body M.spec kind).read bytes.now at) }
     ensures same_kind { IfOk result (λ b. kind_of b.0 ≡ kind) }
 {
     let version = Version::newest();
@@ -148,9 +148,9 @@ pub fn read_body<M: Machine>(
 /// Puts the body to the end.
 #[inline(never)]
 pub fn append_body<M: Machine>(value: &Body<M>, out: &mut Vec<u8>) -> Result<(), NoMemory>
-    ensures value { Puts (body M.meaning (kind_of value.now)) value.now
+    ensures value { Puts (body M.spec (kind_of value.now)) value.now
         result out.old.items out.new.items }
-    ensures agrees { OnOk result (agrees M.meaning value.now ≡ true) }
+    ensures agrees { OnOk result (agrees M.spec value.now ≡ true) }
 {
     match value {
         Body::VoteRequest(request) => request.append(out),
@@ -209,10 +209,10 @@ impl<'a, M: Machine> Said<'a, M> {
 /// Puts what is said to the end.
 #[inline(always)]
 pub fn append_said<M: Machine>(said: &Said<'_, M>, out: &mut Vec<u8>) -> Result<(), NoMemory>
-    requires { IsInRange M.meaning said.now }
-    ensures value { Puts (body M.meaning (kind_of (said_body said.now))) (said_body said.now)
+    requires { IsInRange M.spec said.now }
+    ensures value { Puts (body M.spec (kind_of (said_body said.now))) (said_body said.now)
         result out.old.items out.new.items }
-    ensures agrees { OnOk result (agrees M.meaning (said_body said.now) ≡ true) }
+    ensures agrees { OnOk result (agrees M.spec (said_body said.now) ≡ true) }
 {
     match said {
         Said::Body(body) => append_body(body, out),

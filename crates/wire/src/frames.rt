@@ -107,7 +107,7 @@ impl Frames {
 
     /// Puts the frame of a message to the end, for the message's receiver, or changes nothing.
     pub fn send<M: Machine>(&mut self, message: &Message<M>) -> Result<(), NoMemory>
-        ensures ok { OnOk result (ListsFrame M.meaning message.now self.old self.new) }
+        ensures ok { OnOk result (ListsFrame M.spec message.now self.old self.new) }
         ensures err { OnErr result (self.new ≡ self.old) }
     {
         self.ends.reserve(1)?;
@@ -132,7 +132,7 @@ impl Frames {
         requires allowed { may_go kinds.Append (actors.Server from) (actors.Server to) ≡ true }
         requires few { length entries.now ≤ 32 }
         requires places { head.now.prev_index + length entries.now < 2 ^ 40 }
-        ensures ok { OnOk result (ListsFrame M.meaning (append_message {S = M} from to head.now entries.now)
+        ensures ok { OnOk result (ListsFrame M.spec (append_message {S = M} from to head.now entries.now)
             self.old self.new) }
         ensures err { OnErr result (self.new ≡ self.old) }
     {
@@ -155,7 +155,7 @@ impl Frames {
         reply: &AppendReply,
     ) -> Result<(), NoMemory>
         requires { may_go kinds.AppendReply (actors.Server from) (actors.Server to) ≡ true }
-        ensures ok { OnOk result (ListsFrame M.meaning (answer_message {S = M} from to reply.now)
+        ensures ok { OnOk result (ListsFrame M.spec (answer_message {S = M} from to reply.now)
             self.old self.new) }
         ensures err { OnErr result (self.new ≡ self.old) }
     {
@@ -181,8 +181,8 @@ impl Frames {
     ) -> Result<(), NoMemory>
         requires allowed { may_go kinds.Install (actors.Server from) (actors.Server to) ≡ true }
         requires index { 1 ≤ head.now.index }
-        requires count { M.meaning.count state.now ≡ head.now.index }
-        ensures ok { OnOk result (ListsFrame M.meaning
+        requires count { M.spec.count state.now ≡ head.now.index }
+        ensures ok { OnOk result (ListsFrame M.spec
             (install_message {C = M.Command} from to head.now state.now) self.old self.new) }
         ensures err { OnErr result (self.new ≡ self.old) }
     {

@@ -41,7 +41,7 @@ impl<M: Machine> Model for Install<M> {
 
     ghost view = { λ i. record { head = i.head; state = i.state } };
 
-    ghost invariant = { λ i. (1 ≤ i.head.index) × (M.meaning.count i.state ≡ i.head.index) };
+    ghost invariant = { λ i. (1 ≤ i.head.index) × (M.spec.count i.state ≡ i.head.index) };
 }
 
 impl<M: Machine> Install<M> {
@@ -49,8 +49,8 @@ impl<M: Machine> Install<M> {
     /// of commands. It takes no memory.
     pub fn new(head: InstallHead, state: M) -> Option<Install<M>>
         ensures some { IfSome result (λ i. (i ≡ record { head = head; state = state })
-            × (1 ≤ head.index) × (M.meaning.count state ≡ head.index)) }
-        ensures none { IfNone result ((head.index ≡ 0) ⊎ (M.meaning.count state ≢ head.index)) }
+            × (1 ≤ head.index) × (M.spec.count state ≡ head.index)) }
+        ensures none { IfNone result ((head.index ≡ 0) ⊎ (M.spec.count state ≢ head.index)) }
     {
         if head.index.get() == 0 || state.count() != head.index.get() {
             return None;
@@ -62,7 +62,7 @@ impl<M: Machine> Install<M> {
     pub fn head(&self) -> InstallHead
         ensures value { result ≡ self.now.head }
         ensures index { 1 ≤ result.index }
-        ensures count { M.meaning.count self.now.state ≡ result.index }
+        ensures count { M.spec.count self.now.state ≡ result.index }
     {
         self.head
     }
@@ -71,7 +71,7 @@ impl<M: Machine> Install<M> {
     pub fn state(&self) -> &M
         ensures value { result.now ≡ self.now.state }
         ensures index { 1 ≤ self.now.head.index }
-        ensures count { M.meaning.count result.now ≡ self.now.head.index }
+        ensures count { M.spec.count result.now ≡ self.now.head.index }
     {
         &self.state
     }
@@ -81,7 +81,7 @@ impl<M: Machine> Install<M> {
         ensures head { result.0 ≡ self.head }
         ensures state { result.1 ≡ self.state }
         ensures index { 1 ≤ result.0.index }
-        ensures count { M.meaning.count result.1 ≡ result.0.index }
+        ensures count { M.spec.count result.1 ≡ result.0.index }
     {
         let Install { head, state } = self;
         (head, state)
@@ -169,7 +169,7 @@ fn rest(bytes: &[u8], at: usize) -> &[u8]
 fn read_state<M: Machine>(alloc: Global, bytes: &[u8], at: usize) -> Result<M, Refusal>
     requires { at ≤ length bytes.now }
     ensures { Gives result
-        (ended bytes.now ((placed (M.meaning.states newest)).read bytes.now at)) }
+        (ended bytes.now ((placed (M.spec.states newest)).read bytes.now at)) }
 {
     match M::load(Version::newest(), alloc, rest(bytes, at)) {
         Ok(state) => Ok(state),
@@ -186,8 +186,8 @@ pub fn read_install<M: Machine>(
     bytes: &[u8],
     at: usize,
 ) -> Result<(Install<M>, usize), Refusal>
-    ensures { AnswersBody M.meaning (Unit {0}) (λ i. bodies.Install i) bytes.now at result
-        ((body M.meaning kinds.Install).read bytes.now at) }
+    ensures { AnswersBody M.spec (Unit {0}) (λ i. bodies.Install i) bytes.now at result
+        ((body M.spec kinds.Install).read bytes.now at) }
 {
     let (head, state_at) = read_install_head(alloc, bytes, at)?;
     let state: M = read_state(alloc, bytes, state_at)?;
@@ -206,7 +206,7 @@ pub fn append_install<M: Machine>(
     out: &mut Vec<u8>,
 ) -> Result<(), NoMemory>
     requires { 1 ≤ head.now.index }
-    ensures { Puts (install (M.meaning.states newest))
+    ensures { Puts (install (M.spec.states newest))
         (record { head = head.now; state = state.now }) result out.old.items out.new.items }
 {
     write_term(&head.term, out)?;

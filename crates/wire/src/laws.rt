@@ -9,13 +9,13 @@ use machine::Machine;
 /// Each frame that is written is read again as its message, what is read is the message of just
 /// these bytes, no frame begins another, and none is longer than the limit of 16,777,216 bytes.
 pub fn frames_are_whole<M: Machine>()
-    ensures again { (m : Message M M.Command) → MessageFits M.meaning m
-        → message_at M.meaning (message_text M.meaning m) ≡ Ok m }
+    ensures again { (m : Message M M.Command) → MessageFits M.spec m
+        → message_at M.spec (message_text M.spec m) ≡ Ok m }
     ensures found { (bytes : List ℕ) (m : Message M M.Command) → IsBytes bytes
-        → message_at M.meaning bytes ≡ Ok m → IsFrame M.meaning m bytes }
-    ensures apart { (m n : Message M M.Command) (x y : List ℕ) → MessageFits M.meaning m
-        → MessageFits M.meaning n
-        → message_text M.meaning m ++ x ≡ message_text M.meaning n ++ y → m ≡ n }
-    ensures short { (m : Message M M.Command) → MessageFits M.meaning m
-        → length (message_text M.meaning m) ≤ frame_limit }
+        → message_at M.spec bytes ≡ Ok m → IsFrame M.spec m bytes }
+    ensures apart { (m n : Message M M.Command) (x y : List ℕ) → MessageFits M.spec m
+        → MessageFits M.spec n
+        → message_text M.spec m ++ x ≡ message_text M.spec n ++ y → m ≡ n }
+    ensures short { (m : Message M M.Command) → MessageFits M.spec m
+        → length (message_text M.spec m) ≤ frame_limit }
 {}

@@ -104,8 +104,8 @@ fn read_log_body<M: Machine>(
     at: usize,
 ) -> Result<(LogBody<M>, usize), Refusal>
     requires { is_of_log kind ≡ true }
-    ensures { AnswersBody M.meaning (takes_memory kind ≡ true) (λ b. log_body b) bytes.now at result
-        ((body M.meaning kind).read bytes.now at) }
+    ensures { AnswersBody M.spec (takes_memory kind ≡ true) (λ b. log_body b) bytes.now at result
+        ((body M.spec kind).read bytes.now at) }
 {
     let version = Version::newest();
     match kind {
@@ -154,7 +154,7 @@ fn server_of(actor: &Actor) -> ServerId
 fn read_log_frame<M: Machine>(alloc: Global, bytes: &[u8]) -> Result<LogMessage<M>, Refusal>
     requires { is_log_frame bytes.now ≡ true }
     ensures exact { Answers (frame_takes_memory bytes.now ≡ true) result
-        (message_at M.meaning bytes.now) }
+        (message_at M.spec bytes.now) }
     ensures log { IfOk result (λ m. is_of_log (kind_of m.body) ≡ true) }
     ensures allowed { IfOk result (λ m. may_go (kind_of m.body) m.from m.to ≡ true) }
 {
@@ -177,12 +177,12 @@ fn read_log_frame<M: Machine>(alloc: Global, bytes: &[u8]) -> Result<LogMessage<
 pub fn read_log_message<M: Machine>(alloc: Global, bytes: &[u8]) -> Result<LogMessage<M>, Refusal>
     requires { is_log_frame bytes.now ≡ true }
     // What is read has just these bytes.
-    ensures found { IfOk result (λ m. IsFrame M.meaning m bytes.now) }
+    ensures found { IfOk result (λ m. IsFrame M.spec m bytes.now) }
     // A message's bytes are read, unless memory runs out.
-    ensures only { (m : MessageOf M M.Command) → MessageFits M.meaning m
-        → bytes.now ≡ message_text M.meaning m → Gives result (Ok m) }
+    ensures only { (m : MessageOf M M.Command) → MessageFits M.spec m
+        → bytes.now ≡ message_text M.spec m → Gives result (Ok m) }
     // Which field is at fault.
-    ensures exact { Gives result (message_at M.meaning bytes.now) }
+    ensures exact { Gives result (message_at M.spec bytes.now) }
     // Memory can run out only where the second byte says that there is a list or a state.
     ensures memory { IfErr result (λ e. e ≡ refusals.NoMemory
         → frame_takes_memory bytes.now ≡ true) }

@@ -36,7 +36,7 @@ pub fn read_size(bytes: &[u8], at: usize) -> Result<(u32, usize), Refusal>
 #[tactic(auto, unfolding(crate::specs::Frames::message_at))]
 fn read_frame<M: Machine>(alloc: Global, bytes: &[u8]) -> Result<Message<M>, Refusal>
     ensures { Answers (frame_takes_memory bytes.now ≡ true) result
-        (message_at M.meaning bytes.now) }
+        (message_at M.spec bytes.now) }
 {
     let (header, at) = read_header(alloc, bytes, 0)?;
     let (_, at) = read_size(bytes, at)?;
@@ -56,12 +56,12 @@ fn read_frame<M: Machine>(alloc: Global, bytes: &[u8]) -> Result<Message<M>, Ref
 /// message says: where it has not, its first byte is at fault.
 pub fn read_message<M: Machine>(alloc: Global, bytes: &[u8]) -> Result<Message<M>, Refusal>
     // What is read has just these bytes.
-    ensures found { IfOk result (λ m. IsFrame M.meaning m bytes.now) }
+    ensures found { IfOk result (λ m. IsFrame M.spec m bytes.now) }
     // A message's bytes are read, unless memory runs out.
-    ensures only { (m : MessageOf M M.Command) → MessageFits M.meaning m
-        → bytes.now ≡ message_text M.meaning m → Gives result (Ok m) }
+    ensures only { (m : MessageOf M M.Command) → MessageFits M.spec m
+        → bytes.now ≡ message_text M.spec m → Gives result (Ok m) }
     // Which field is at fault.
-    ensures exact { Gives result (message_at M.meaning bytes.now) }
+    ensures exact { Gives result (message_at M.spec bytes.now) }
     // Memory can run out only where the second byte says that there is a list or a state.
     ensures memory { IfErr result (λ e. e ≡ refusals.NoMemory
         → frame_takes_memory bytes.now ≡ true) }

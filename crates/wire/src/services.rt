@@ -68,8 +68,8 @@ pub fn read_desk_body<M: Machine>(
 ) -> Result<(Body<M>, usize), Refusal>
     requires { is_of_desk kind ≡ true }
     // Memory is wanted for a kind that holds a list alone.
-    ensures value { AnswersBody M.meaning (takes_memory kind ≡ true) (λ b. b) bytes.now at result
-        ((body M.meaning kind).read bytes.now at) }
+    ensures value { AnswersBody M.spec (takes_memory kind ≡ true) (λ b. b) bytes.now at result
+        ((body M.spec kind).read bytes.now at) }
     ensures same_kind { IfOk result (λ b. kind_of b.0 ≡ kind) }
 {
     let version = Version::newest();
@@ -113,7 +113,7 @@ pub fn append_request<M: Machine>(
     request: &WorkerRequest,
     out: &mut Vec<u8>,
 ) -> Result<(), NoMemory>
-    ensures { Puts (body M.meaning (request_kind request.now)) (bodies.Request request.now)
+    ensures { Puts (body M.spec (request_kind request.now)) (bodies.Request request.now)
         result out.old.items out.new.items }
 {
     match request {
@@ -136,7 +136,7 @@ pub fn append_response<M: Machine>(
     response: &WorkerResponse,
     out: &mut Vec<u8>,
 ) -> Result<(), NoMemory>
-    ensures { Puts (body M.meaning (response_kind response.now)) (bodies.Response response.now)
+    ensures { Puts (body M.spec (response_kind response.now)) (bodies.Response response.now)
         result out.old.items out.new.items }
 {
     match response {

@@ -26,10 +26,10 @@ fn put_size(out: &mut Vec<u8>, at: usize)
 /// Puts what is said to the end, behind its length.
 #[inline(always)]
 fn append_sized<M: Machine>(said: &Said<'_, M>, out: &mut Vec<u8>) -> Result<(), NoMemory>
-    requires { IsInRange M.meaning said.now }
-    ensures ok { OnOk result (AddsSized (body M.meaning (kind_of (said_body said.now)))
+    requires { IsInRange M.spec said.now }
+    ensures ok { OnOk result (AddsSized (body M.spec (kind_of (said_body said.now)))
         (said_body said.now) out.old.items out.new.items) }
-    ensures agrees { OnOk result (agrees M.meaning (said_body said.now) ≡ true) }
+    ensures agrees { OnOk result (agrees M.spec (said_body said.now) ≡ true) }
     ensures err { OnErr result (Grows out.old.items out.new.items) }
 {
     let size_at = out.len();
@@ -49,8 +49,8 @@ fn append_frame<M: Machine>(
     out: &mut Vec<u8>,
 ) -> Result<(), NoMemory>
     requires allowed { may_go (kind_of (said_body said.now)) from.now to.now ≡ true }
-    requires range { IsInRange M.meaning said.now }
-    ensures ok { OnOk result (AddsFrame M.meaning
+    requires range { IsInRange M.spec said.now }
+    ensures ok { OnOk result (AddsFrame M.spec
         (record { from = from.now; to = to.now; body = said_body said.now }) out.old.items out.new.items) }
     ensures err { OnErr result (Grows out.old.items out.new.items) }
 {
@@ -74,8 +74,8 @@ pub fn write_frame<M: Machine>(
     out: &mut Vec<u8>,
 ) -> Result<(), NoMemory>
     requires allowed { may_go (kind_of (said_body said.now)) from.now to.now ≡ true }
-    requires range { IsInRange M.meaning said.now }
-    ensures ok { OnOk result (AddsFrame M.meaning
+    requires range { IsInRange M.spec said.now }
+    ensures ok { OnOk result (AddsFrame M.spec
         (record { from = from.now; to = to.now; body = said_body said.now }) out.old.items out.new.items) }
     ensures err { OnErr result (out.new.items ≡ out.old.items) }
 {
@@ -89,7 +89,7 @@ pub fn write_frame<M: Machine>(
 
 /// Puts the one frame of a message to the end, or changes nothing.
 pub fn write_message<M: Machine>(message: &Message<M>, out: &mut Vec<u8>) -> Result<(), NoMemory>
-    ensures ok { OnOk result (AddsFrame M.meaning message.now out.old.items out.new.items) }
+    ensures ok { OnOk result (AddsFrame M.spec message.now out.old.items out.new.items) }
     ensures err { OnErr result (out.new.items ≡ out.old.items) }
 {
     let said = Said::Body(message.body());

@@ -67,12 +67,12 @@ CountsStep (steps.Ask request) old new = CountsRequest request old new
 -- ---- where memory may be wanting
 
 -- to count the first plan under a delivery
-abbrev pub RequestMayLack : WorkerRequest → List (Lease × ℕ) → Type 0
-RequestMayLack (requests.Submit plan) plans = count_of (lease_of plan.eval plan.token) plans ≡ 0
-RequestMayLack _ plans = ⊥
+abbrev pub RequestMayEndOutOfMemory : WorkerRequest → List (Lease × ℕ) → Type 0
+RequestMayEndOutOfMemory (requests.Submit plan) plans = count_of (lease_of plan.eval plan.token) plans ≡ 0
+RequestMayEndOutOfMemory _ plans = ⊥
 
 -- to let the work wait again, or to count the first plan under a delivery
-abbrev pub StepMayLack : steps.WorkerStep → List (Lease × ℕ) → Type 0
-StepMayLack steps.Later plans = Unit {0}
-StepMayLack steps.Drop plans = ⊥
-StepMayLack (steps.Ask request) plans = RequestMayLack request plans
+abbrev pub StepMayEndOutOfMemory : steps.WorkerStep → List (Lease × ℕ) → Type 0
+StepMayEndOutOfMemory steps.Later plans = Unit {0}
+StepMayEndOutOfMemory steps.Drop plans = ⊥
+StepMayEndOutOfMemory (steps.Ask request) plans = RequestMayEndOutOfMemory request plans

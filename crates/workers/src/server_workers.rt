@@ -6,7 +6,7 @@ ghost use Rattle.group_inputs.specs.Handings.{OwnInput, handing};
 ghost use Rattle.group_model.specs.NextStep.{IsNextStep};
 ghost use Rattle.scheduler.specs.Steps.{makes_plan, step_as};
 ghost use Rattle.workers.specs.PlanCounts.{plans_under, CountsRequest, CountsStep};
-ghost use Rattle.workers.specs.PlanCounts.{RequestMayLack, StepMayLack};
+ghost use Rattle.workers.specs.PlanCounts.{RequestMayEndOutOfMemory, StepMayEndOutOfMemory};
 ghost use Rattle.workers.specs.Working.{asking, HandledAs, KeptFirst, waiting_after};
 
 use crate::plan_counts::{PlanCounts, lease_of};
@@ -95,7 +95,7 @@ impl ServerWorkers {
     /// Puts what came behind what waits. Where memory is wanting, the last of it are lost.
     /// - `err`: the first of it wait then, and what waited still does.
     /// - `plans`: no count changes.
-    pub fn admit(&mut self, work: Sequence<Work>) -> Result<(), NoMemory>
+    pub fn enqueue(&mut self, work: Sequence<Work>) -> Result<(), NoMemory>
         ensures ok { OnOk result (self.new.waiting ≡ self.old.waiting ++ work) }
         ensures err { OnErr result (KeptFirst self.old.waiting work self.new.waiting) }
         ensures plans { self.new.plans ≡ self.old.plans }
@@ -165,7 +165,7 @@ impl ServerWorkers {
             (self.new.waiting ≡ waiting_after self.old.waiting taken.work (step_as step)) }
         ensures plans { OnOk result (CountsStep (step_as step) self.old.plans self.new.plans) }
         ensures err { OnErr result (self.new ≡ self.old) }
-        ensures memory { OnErr result (StepMayLack (step_as step) self.old.plans) }
+        ensures memory { OnErr result (StepMayEndOutOfMemory (step_as step) self.old.plans) }
     {
         let TakenWork { work, plans: _ } = taken;
         match step {
@@ -212,7 +212,7 @@ impl ServerWorkers {
         ensures waiting { self.new.waiting ≡ self.old.waiting }
         ensures ok { OnOk result (CountsRequest request.now self.old.plans self.new.plans) }
         ensures err { OnErr result (self.new.plans ≡ self.old.plans) }
-        ensures memory { OnErr result (RequestMayLack request.now self.old.plans) }
+        ensures memory { OnErr result (RequestMayEndOutOfMemory request.now self.old.plans) }
     {
         match request {
             WorkerRequest::Submit(plan) => self.plans.add(lease_of(plan.eval, plan.token)),

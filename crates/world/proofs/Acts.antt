@@ -5,7 +5,7 @@ use Rattle.std.proofs.lemmas.Option.{same_Some, slice_get_read}
 use Rattle.std.specs.List.{AllZip}
 use Rattle.rows.specs.declared.refusal.Refusal.{Refusal}
 use Rattle.rows.specs.declared.refusal.Refusal.TheVariants as refusals
-use Rattle.machine_model.specs.Meaning.{Meaning}
+use Rattle.machine_model.specs.MachineSpec.{MachineSpec}
 use Rattle.wire.specs.Messages.{Message as WireMessage}
 use Rattle.wire.specs.Frames.{MessageFits, message_at, message_text}
 use Rattle.raft_model.specs.Messages.{Message}
@@ -14,13 +14,13 @@ use Rattle.raft_model.specs.Steps.{Input, Arrives, Timeout, Beat, Propose, Compa
 use Rattle.raft_model.specs.Worlds.{World, Event, Deliver, TimesOut, Beats, Proposes, Compacts, Crashes, Restarts, Run, IsRestart}
 use Rattle.raft_core.specs.RaftView.{RaftView}
 use Rattle.raft_core.specs.Refusals.{refusal}
-use Rattle.raft_core.specs.Steps.{Represents, Steps}
+use Rattle.raft_core.specs.Steps.{Refines, Steps}
 use Rattle.raft_safety.specs.Claims.{IsAmongMembers}
 use Rattle.raft_safety.proofs.Places.{get-within}
 use Rattle.world.specs.declared.done.Done.{Done}
 use Rattle.world.specs.declared.done.Done.TheVariants as done
-use Rattle.world.specs.WorldView.{WorldView, RepresentsWorld, RunsTo, IsRaftWorld}
-use Rattle.world.specs.Steps.{WasDone, LeftServer, SameWorld, MayWantFor, RefusesEvent}
+use Rattle.world.specs.WorldView.{WorldView, RefinesWorld, RunsTo, IsRaftWorld}
+use Rattle.world.specs.Steps.{WasDone, LeftServer, SameWorld, OutOfMemoryMayEndFor, RefusesEvent}
 use Rattle.world.specs.Inner.HistoryView.{HistoryView}
 use Rattle.world.specs.Inner.Inputs.{ActsIn, IsSent, handed_by, is_restart}
 use Rattle.world.specs.Inner.Parts.{IsForServer, PartTaken, PartCrashed, PartStays, IsPartRefused, PartDone}
@@ -35,7 +35,7 @@ set_here [] i x h = refl
 set_here (y ∷ xs) zero x h = let e : y ≡ x = cc in ap (λ z. z ∷ xs) (sym e)
 set_here (y ∷ xs) (suc i) x h = ap (λ zs. y ∷ zs) (set_here xs i x h)
 
-is_a_restart : {S C : Type 0} (m : Meaning S C) (e : Event C) → is_restart e ≡ true → IsRestart m e
+is_a_restart : {S C : Type 0} (m : MachineSpec S C) (e : Event C) → is_restart e ≡ true → IsRestart m e
 is_a_restart m (Deliver k) h = absurd (cc)
 is_a_restart m (TimesOut i) h = absurd (cc)
 is_a_restart m (Beats i) h = absurd (cc)
@@ -48,26 +48,26 @@ abbrev pub history_of : {S C : Type 0} → WorldView S C → HistoryView C
 history_of view = record { sent = view.sent; trace = view.trace; chain = view.chain }
 
 -- what became of an event, of which the world says so
-pub record Acted {S C : Type 0} (m : Meaning S C) (old : WorldView S C) (e : Event C) (result : Result Done Refusal) (new : WorldView S C) : Type 0 where
+pub record Acted {S C : Type 0} (m : MachineSpec S C) (old : WorldView S C) (e : Event C) (result : Result Done Refusal) (new : WorldView S C) : Type 0 where
   pub ok : IfOk result (λ d. WasDone m old e d new)
   pub err : OnErr result (SameWorld old new)
   pub cause : IfErr result (λ r. r ≢ refusals.NoMemory → RefusesEvent m old e r)
   pub world : IsRaftWorld m new
 
 -- the event is for server i, which is h
-pub record At {S C : Type 0} (m : Meaning S C) (old : WorldView S C) (e : Event C) (i : ℕ) (h : RaftView S C) : Type 0 where
+pub record At {S C : Type 0} (m : MachineSpec S C) (old : WorldView S C) (e : Event C) (i : ℕ) (h : RaftView S C) : Type 0 where
   pub reached : IsRaftWorld m old
   pub here : slice_get old.servers i ≡ Some h
   pub acts : ActsIn m old.sent e i
 
-pub at_actor : {S C : Type 0} (m : Meaning S C) (old now : WorldView S C) (e : Event C) (i p : ℕ) (h : RaftView S C) → old ≡ now → IsRaftWorld m old → p ≡ i → i < length now.servers → h ≡ get_or old.servers p h → ActsIn m now.sent e i → At m old e i h
+pub at_actor : {S C : Type 0} (m : MachineSpec S C) (old now : WorldView S C) (e : Event C) (i p : ℕ) (h : RaftView S C) → old ≡ now → IsRaftWorld m old → p ≡ i → i < length now.servers → h ≡ get_or old.servers p h → ActsIn m now.sent e i → At m old e i h
 at_actor m old now e i p h same reached is inside got acts = record {
   reached = reached;
   here = slice_get_read old.servers _ i h refl (subst (λ (x : WorldView _ _). i < length x.servers) (sym same) inside) (subst (λ k. h ≡ get_or old.servers k h) is got);
   acts = subst (λ (x : WorldView _ _). ActsIn m x.sent e i) (sym same) acts;
 }
 
-module _ {S C : Type 0} (m : Meaning S C) (old : WorldView S C) (e : Event C) (i : ℕ) (h : RaftView S C) (a : At m old e i h) where
+module _ {S C : Type 0} (m : MachineSpec S C) (old : WorldView S C) (e : Event C) (i : ℕ) (h : RaftView S C) (a : At m old e i h) where
   pub size_is : h.size ≡ length old.servers
   size_is = let r = a.reached in let n = r.numbered i h a.here in n.1
 
@@ -78,40 +78,40 @@ module _ {S C : Type 0} (m : Meaning S C) (old : WorldView S C) (e : Event C) (i
   record Scene (w : World C) : Type 0 where
     server : Raft C
     at : slice_get w.servers i ≡ Some server
-    represents : Represents m h server
+    refines : Refines m h server
     brings : Brings m old.sent w e i
 
-  scene : (w : World C) → RepresentsWorld m old w → Scene w
+  scene : (w : World C) → RefinesWorld m old w → Scene w
   scene w st =
-      let s = zip_at (Represents m) old.servers w.servers i h st.servers a.here in
-      record { server = s.0; at = s.1; represents = s.2; brings = brings m old.sent w e i st.sent (a.acts w st.sent) }
+      let s = zip_at (Refines m) old.servers w.servers i h st.servers a.here in
+      record { server = s.0; at = s.1; refines = s.2; brings = brings m old.sent w e i st.sent (a.acts w st.sent) }
 
   pub is_for : IsSent old.sent e → IsForServer m h old.sent e
   is_for there =
       let r = a.reached in
       let runs = r.runs in
-      let c = scene r.world runs.represents in
+      let c = scene r.world runs.refines in
       let b = c.brings in
       record { inside = omega (arith, get-within old.servers i h a.here, size_is, me_is); there = there; input = b.input; reads = b.reads }
 
   module _ (h2 : RaftView S C) (new : WorldView S C) (servers : new.servers ≡ slice_set old.servers i h2) (same : (h2.me ≡ h.me) × (h2.size ≡ h.size)) where
     taken : PartTaken m h (history_of old) e h2 (history_of new) → Acted m old e (Ok done.Taken) new
     taken p =
-        let move : (w : World C) → RepresentsWorld m old w → (turn : RaftTurn C) × Moved m old new e i h h2 a.reached.numbered a.here servers w turn =
-        λ w st. let c = scene w st in let b = c.brings in let t = p.taken c.server c.represents b.input b.reads in (t.turn, moved m old new e i h h2 a.reached.numbered a.here servers w st c.server b.input c.at b.takes t) in
-        let happened = goes_by m old new e i h h2 a.reached.numbered a.here servers p.event p.trace move (λ w st. let q = move w st in let d = q.1 in p.chain q.0.server d.represents) in
+        let move : (w : World C) → RefinesWorld m old w → (turn : RaftTurn C) × Moved m old new e i h h2 a.reached.numbered a.here servers w turn =
+        λ w st. let c = scene w st in let b = c.brings in let t = p.taken c.server c.refines b.input b.reads in (t.turn, moved m old new e i h h2 a.reached.numbered a.here servers w st c.server b.input c.at b.takes t) in
+        let happened = goes_by m old new e i h h2 a.reached.numbered a.here servers p.event p.trace move (λ w st. let q = move w st in let d = q.1 in p.chain q.0.server d.refines) in
         record { ok = happened; err = tt; cause = tt; world = reached_on m old new e happened (numbered_on m old new e i h h2 a.reached.numbered a.here servers same) a.reached }
 
     fallen : PartCrashed m h (history_of old) e i h2 (history_of new) → Acted m old e (Ok done.Crashed) new
     fallen p =
         let none : new.sent ≡ old.sent ++ [] = p.sent ∙ sym (append-nil old.sent) in
-        let crash : (w : World C) (st : RepresentsWorld m old w) → let c = scene w st in Steps m h c.server Crash h2 old.sent new.sent =
-        λ w st. let c = scene w st in let l = p.fell c.server c.represents in record { turn = silent (crashed c.server); step = rw l.0 refl; represents = l.1; sent = record { frames = []; added = none; carry = tt } } in
-        let move : (w : World C) → RepresentsWorld m old w → (turn : RaftTurn C) × Moved m old new (Crashes i) i h h2 a.reached.numbered a.here servers w turn =
+        let crash : (w : World C) (st : RefinesWorld m old w) → let c = scene w st in Steps m h c.server Crash h2 old.sent new.sent =
+        λ w st. let c = scene w st in let l = p.fell c.server c.refines in record { turn = silent (crashed c.server); step = rw l.0 refl; refines = l.1; sent = record { frames = []; added = none; carry = tt } } in
+        let move : (w : World C) → RefinesWorld m old w → (turn : RaftTurn C) × Moved m old new (Crashes i) i h h2 a.reached.numbered a.here servers w turn =
         λ w st. let c = scene w st in let t = crash w st in (t.turn, moved m old new (Crashes i) i h h2 a.reached.numbered a.here servers w st c.server Crash c.at refl t) in
         let happened = goes_by m old new (Crashes i) i h h2 a.reached.numbered a.here servers tt p.trace move (λ w st. omega (arith, p.chain)) in
-        let lacking : (w : World C) (s : Raft C) → RepresentsWorld m old w → slice_get w.servers i ≡ Some s → MayWantFor w e s =
-        λ w s st at. let c = scene w st in let b = c.brings in let is : c.server ≡ s = same_Some c.server s (sym c.at ∙ at) in (b.input, b.is, b.wants s.mode (p.lacks s (subst (λ x. Represents m h x) is c.represents))) in
+        let lacking : (w : World C) (s : Raft C) → RefinesWorld m old w → slice_get w.servers i ≡ Some s → OutOfMemoryMayEndFor w e s =
+        λ w s st at. let c = scene w st in let b = c.brings in let is : c.server ≡ s = same_Some c.server s (sym c.at ∙ at) in (b.input, b.is, b.wants s.mode (p.lacks s (subst (λ x. Refines m h x) is c.refines))) in
         record {
           ok = inl (record { who = i; actor = λ w st. a.acts w st.sent; lacking = lacking; happened = happened });
           err = tt;
@@ -143,7 +143,7 @@ module _ {S C : Type 0} (m : Meaning S C) (old : WorldView S C) (e : Event C) (i
             could = λ w st.
                 let c = scene w st in
                 let b = c.brings in
-                let down : is_up c.server.mode ≡ false = p.down c.server c.represents in
+                let down : is_up c.server.mode ≡ false = p.down c.server c.refines in
                 let stepped : step m (length w.servers) i c.server b.input ≡ Ok (silent (restarted c.server)) =
                 subst (λ x. step m (length w.servers) i c.server x ≡ Ok (silent (restarted c.server))) (sym (b.wakes p.restart)) (rw down refl) in
                 (record { servers = slice_set w.servers i (restarted c.server); sent = w.sent ++ [] }, b.takes ∙ took m w i b.input c.server (Ok (silent (restarted c.server))) c.at stepped);
@@ -166,13 +166,13 @@ module _ {S C : Type 0} (m : Meaning S C) (old : WorldView S C) (e : Event C) (i
       addressed past w run Restart came = tt
 
       -- a server refuses what the definitions refuse
-      refuses : (r : Refusal) → ((s : Raft C) → Represents m h s → refusal m h.size h.me s (handed_by old.sent e) ≡ Some r) → RefusesEvent m old e r
+      refuses : (r : Refusal) → ((s : Raft C) → Refines m h s → refusal m h.size h.me s (handed_by old.sent e) ≡ Some r) → RefusesEvent m old e r
       refuses r says past w run =
-          let c = scene w run.represents in
+          let c = scene w run.refines in
           let b = c.brings in
-          let no_step : step m h.size h.me c.server b.input ≡ Err r = refused_is m h.size h.me again c.server (handed_by old.sent e) b.input r b.reads (addressed past w run b.input b.came) (says c.server c.represents) in
-          let st = run.represents in
-          let n : h.size ≡ length w.servers = size_is ∙ zip_length (Represents m) old.servers w.servers st.servers in
+          let no_step : step m h.size h.me c.server b.input ≡ Err r = refused_is m h.size h.me again c.server (handed_by old.sent e) b.input r b.reads (addressed past w run b.input b.came) (says c.server c.refines) in
+          let st = run.refines in
+          let n : h.size ≡ length w.servers = size_is ∙ zip_length (Refines m) old.servers w.servers st.servers in
           let stepped : step m (length w.servers) i c.server b.input ≡ Err r =
           subst (λ (k : ℕ). step m k i c.server b.input ≡ Err r) n (subst (λ (j : ℕ). step m h.size j c.server b.input ≡ Err r) me_is no_step) in
           b.takes ∙ took m w i b.input c.server (Err r) c.at stepped

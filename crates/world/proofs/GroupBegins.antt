@@ -7,7 +7,7 @@ use Rattle.rows.specs.Fits.{SizeFits, NodeSpecFits}
 use Rattle.rows.specs.declared.node.NodeSpec.{NodeSpec}
 use Rattle.raft_model.specs.Worlds as raft_worlds
 use Rattle.raft_safety.specs.Claims.{IsGreatestCommit}
-use Rattle.cluster_model.specs.ClusterMachine.{cluster_meaning}
+use Rattle.fsm_model.specs.ClusterMachine.{cluster_spec}
 use Rattle.group_model.specs.Agents.{agent_of}
 use Rattle.group_model.specs.Servers.{newcomer}
 use Rattle.group_model.specs.Worlds.{agents_from, first, raft_of, raft_part}
@@ -17,9 +17,9 @@ use Rattle.group_safety.proofs.Lists.{map_replicate}
 use Rattle.group_frames.specs.GroupFrames.{CarriesGroup}
 use Rattle.client_agent.specs.AgentView.{AgentView}
 use Rattle.server.specs.declared.server.Outbox.{Outbox}
-use Rattle.server.specs.ServerViews.{ServerView, IsServer}
+use Rattle.server.specs.ServerViews.{ServerView, RefinesServer}
 use Rattle.rows.specs.GroupSizes.{IsGroup}
-use Rattle.world.specs.GroupView.{GroupView, GroupRunsTo, IsGroupWorld, nodes_of, node_in, client_in, renumbered}
+use Rattle.world.specs.GroupView.{GroupView, GroupRunsTo, GroupInvariant, nodes_of, node_in, client_in, renumbered}
 use Rattle.world.specs.GroupSteps.{IsNewGroup}
 use Rattle.world.specs.Inner.GroupInputs.{new_agents}
 use Rattle.world.specs.Inner.GroupParts.{GroupHistoryView}
@@ -32,7 +32,7 @@ use Rattle.world.proofs.Heights.{first_height}
 pub record MadeServers (n made : ℕ) (servers : List ServerView) : Type 0 where
   pub count : length servers ≡ made
   pub places : (i : ℕ) (s : ServerView) → slice_get servers i ≡ Some s → (s.raft.me ≡ i) × (s.raft.size ≡ n)
-  pub newcomers : AllZip IsServer servers (replicate made newcomer)
+  pub newcomers : AllZip RefinesServer servers (replicate made newcomer)
 
 get_end : {A : Type 0} (xs : List A) (x : A) (j : ℕ) (y : A) → slice_get (xs ++ x ∷ []) j ≡ Some y → (slice_get xs j ≡ Some y) ⊎ ((j ≡ length xs) × (x ≡ y))
 get_end [] x zero y h = inr (refl, cc)
@@ -44,7 +44,7 @@ one_more : {A : Type 0} (k : ℕ) (x : A) → replicate k x ++ x ∷ [] ≡ repl
 one_more zero x = refl
 one_more (suc k) x = ap (λ l. x ∷ l) (one_more k x)
 
-pub server_more : (n made : ℕ) (servers after : List ServerView) (s : ServerView) → MadeServers n made servers → after ≡ servers ++ s ∷ [] → (s.raft.me ≡ made) × (s.raft.size ≡ n) → IsServer s newcomer → MadeServers n (made + 1) after
+pub server_more : (n made : ℕ) (servers after : List ServerView) (s : ServerView) → MadeServers n made servers → after ≡ servers ++ s ∷ [] → (s.raft.me ≡ made) × (s.raft.size ≡ n) → RefinesServer s newcomer → MadeServers n (made + 1) after
 server_more n made servers after s b pushed is r =
     let next : made + 1 ≡ suc made = omega arith in
     subst (λ l. MadeServers n (made + 1) l) (sym pushed) (record {
@@ -53,8 +53,8 @@ server_more n made servers after s b pushed is r =
         | inl e ↦ b.places j a e
         | inr e ↦ subst (λ (x : ServerView). (x.raft.me ≡ j) × (x.raft.size ≡ n)) e.1 (is.0 ∙ sym (e.0 ∙ b.count), is.1)
       ];
-      newcomers = subst (λ k. AllZip IsServer (servers ++ s ∷ []) (replicate k newcomer)) (sym next)
-          (subst (λ l. AllZip IsServer (servers ++ s ∷ []) l) (one_more made newcomer) (zip_append IsServer servers (replicate made newcomer) (s ∷ []) (newcomer ∷ []) b.newcomers (r, tt)));
+      newcomers = subst (λ k. AllZip RefinesServer (servers ++ s ∷ []) (replicate k newcomer)) (sym next)
+          (subst (λ l. AllZip RefinesServer (servers ++ s ∷ []) l) (one_more made newcomer) (zip_append RefinesServer servers (replicate made newcomer) (s ∷ []) (newcomer ∷ []) b.newcomers (r, tt)));
     })
 
 -- ---- the clients
@@ -67,13 +67,13 @@ one_agent_more n k (x ∷ nodes) node =
     (one_agent_more n (suc k) nodes node ∙ ap (λ j. new_agents n (suc k) nodes ++ record { size = n; client = agent_of (record node { number = j }) } ∷ []) e)
 
 -- the client of the next node is made
-pub agent_more : (n place : ℕ) (nodes : List NodeSpec) (node : NodeSpec) (clients after : List AgentView) (a : AgentView) → place < length nodes → node ≡ get_or nodes place node → clients ≡ new_agents n 1 (take place nodes) →
-    a ≡ record { size = n; client = agent_of (record node { number = suc place }) } → after ≡ clients ++ a ∷ [] → after ≡ new_agents n 1 (take (place + 1) nodes)
-agent_more n place nodes node clients after a inside here were is pushed =
-    let before = take place nodes in
-    let more : take (place + 1) nodes ≡ before ++ node ∷ [] = take_more nodes place node inside ∙ ap (λ e. before ++ e ∷ []) (sym here) in
-    let long : length before ≡ place = length-take-le place nodes (omega (arith, inside)) in
-    let count : suc place ≡ 1 + length before = omega (arith, long) in
+pub agent_more : (n position : ℕ) (nodes : List NodeSpec) (node : NodeSpec) (clients after : List AgentView) (a : AgentView) → position < length nodes → node ≡ get_or nodes position node → clients ≡ new_agents n 1 (take position nodes) →
+    a ≡ record { size = n; client = agent_of (record node { number = suc position }) } → after ≡ clients ++ a ∷ [] → after ≡ new_agents n 1 (take (position + 1) nodes)
+agent_more n position nodes node clients after a inside here were is pushed =
+    let before = take position nodes in
+    let more : take (position + 1) nodes ≡ before ++ node ∷ [] = take_more nodes position node inside ∙ ap (λ e. before ++ e ∷ []) (sym here) in
+    let long : length before ≡ position = length-take-le position nodes (omega (arith, inside)) in
+    let count : suc position ≡ 1 + length before = omega (arith, long) in
     pushed ∙ (ap (λ l. l ++ a ∷ []) were ∙ (ap (λ x. new_agents n 1 before ++ x ∷ []) is ∙
     (ap (λ j. new_agents n 1 before ++ record { size = n; client = agent_of (record node { number = j }) } ∷ []) count ∙ (sym (one_agent_more n 1 before node) ∙ ap (new_agents n 1) (sym more)))))
 
@@ -121,7 +121,7 @@ module _ (n : ℕ) (nodes : List NodeSpec) (view : GroupView) where
     pub few : length nodes ≤ 64
     pub count : length view.servers ≡ n
     pub places : (i : ℕ) (s : ServerView) → slice_get view.servers i ≡ Some s → (s.raft.me ≡ i) × (s.raft.size ≡ n)
-    pub newcomers : AllZip IsServer view.servers (replicate n newcomer)
+    pub newcomers : AllZip RefinesServer view.servers (replicate n newcomer)
     pub agents : view.clients ≡ new_agents n 1 nodes
     pub outbox : view.outbox ≡ record { frames = []; work = [] }
     pub trace : view.trace ≡ []
@@ -140,21 +140,21 @@ module _ (n : ℕ) (nodes : List NodeSpec) (view : GroupView) where
       trace = m.trace;
       chain = m.chain;
       work = ap (λ (o : Outbox). o.work) m.outbox;
-      represents = record {
+      refines = record {
         servers = m.newcomers;
         clients = ap (map client_in) m.agents ∙ (agents_clients n 1 nodes ∙ ap (agents_from 1) (sym nodes_are));
-        sent = subst (λ l. AllZip (CarriesGroup cluster_meaning) l []) (sym (ap (λ (o : Outbox). o.frames) m.outbox)) tt;
+        sent = subst (λ l. AllZip (CarriesGroup cluster_spec) l []) (sym (ap (λ (o : Outbox). o.frames) m.outbox)) tt;
       };
     }
 
   pub new_group_runs : IsNewGroup n nodes view → GroupRunsTo view [] (first n (nodes_of view))
   new_group_runs g = record {
     run = subst (λ k. LimitedRun k (nodes_of view) view.trace [] (first n (nodes_of view))) (sym g.count) (subst (λ es. LimitedRun n (nodes_of view) es [] (first n (nodes_of view))) (sym g.trace) start);
-    represents = g.represents;
+    refines = g.refines;
     chain = subst (λ c. IsGreatestCommit (logs []) (raft_of (first n (nodes_of view))) c) (sym g.chain) (first_group_height n (nodes_of view));
   }
 
-  pub made_reached : MadeGroup → AllByRecursion NodeSpecFits nodes → IsGroupWorld view
+  pub made_reached : MadeGroup → AllByRecursion NodeSpecFits nodes → GroupInvariant view
   made_reached m fit = record {
     past = [];
     world = first n (nodes_of view);
@@ -166,7 +166,7 @@ module _ (n : ℕ) (nodes : List NodeSpec) (view : GroupView) where
   }
 
 pub made_group : (n : ℕ) (nodes : List NodeSpec) (servers : List ServerView) (clients : List AgentView) (h : GroupHistoryView) → IsGroup n → length nodes ≤ 64 → length servers ≡ n →
-    ((i : ℕ) (s : ServerView) → slice_get servers i ≡ Some s → (s.raft.me ≡ i) × (s.raft.size ≡ n)) → AllZip IsServer servers (replicate n newcomer) → clients ≡ new_agents n 1 nodes →
+    ((i : ℕ) (s : ServerView) → slice_get servers i ≡ Some s → (s.raft.me ≡ i) × (s.raft.size ≡ n)) → AllZip RefinesServer servers (replicate n newcomer) → clients ≡ new_agents n 1 nodes →
     h ≡ record { outbox = record { frames = []; work = [] }; trace = []; chain = 0 } → MadeGroup n nodes (record { servers = servers; clients = clients; outbox = h.outbox; trace = h.trace; chain = h.chain })
 made_group n nodes servers clients h size few count places newcomers agents is = record {
   size = size;

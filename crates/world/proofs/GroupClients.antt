@@ -9,7 +9,7 @@ use Rattle.rows.specs.declared.command.Command.{Command}
 use Rattle.raft_model.specs.Messages.{Message}
 use Rattle.raft_safety.specs.Claims.{IsGreatestCommit}
 use Rattle.raft_safety.proofs.Places.{get_set-cases}
-use Rattle.cluster_model.specs.ClusterMachine.{cluster_meaning}
+use Rattle.fsm_model.specs.ClusterMachine.{cluster_spec}
 use Rattle.group_model.specs.Messages.{GroupMessage, OfLog, Service, ServiceMessage, BetweenServers, ToServer, ToClient, ClientResponse, Listing, Told}
 use Rattle.group_model.specs.Inputs as inputs
 use Rattle.group_model.specs.Servers as servers
@@ -24,14 +24,14 @@ use Rattle.group_safety.proofs.Lists.{get_map, map_get, map_set, set_same}
 use Rattle.group_frames.specs.GroupFrames.{CarriesGroup, SendsGroup}
 use Rattle.group_inputs.specs.declared.client_input.ClientInput.{ClientInput}
 use Rattle.client_agent.specs.AgentView.{AgentView}
-use Rattle.server.specs.ServerViews.{ServerView, IsServer}
+use Rattle.server.specs.ServerViews.{ServerView, RefinesServer}
 use Rattle.server.specs.declared.server.Outbox.{Outbox}
 use Rattle.actor.specs.Refusals.{RefusedSo, ClientRefuses}
 use Rattle.world.specs.declared.done.Done.{Done}
 use Rattle.world.specs.declared.done.Done.TheVariants as done
 use Rattle.rows.specs.GroupSizes.{IsGroup}
 use Rattle.world.specs.GroupWork.{work_of}
-use Rattle.world.specs.GroupView.{GroupView, RepresentsGroup, GroupRunsTo, IsGroupWorld, client_in, node_in, nodes_of, client_view}
+use Rattle.world.specs.GroupView.{GroupView, RefinesGroup, GroupRunsTo, GroupInvariant, client_in, node_in, nodes_of, client_view}
 use Rattle.world.specs.GroupSteps.{GroupEventHappened, SameView, RefusesGroupEvent, IsGroupAwake}
 use Rattle.world.specs.Inner.GroupParts.{GroupHistoryView, ClientTook, ClientFell, ClientDone}
 use Rattle.world.proofs.Zips.{zip_length, zip_append}
@@ -138,48 +138,48 @@ nodes_through : (xs : List AgentView) → map node_in xs ≡ map node_of (map cl
 nodes_through [] = refl
 nodes_through (x ∷ xs) = ap (λ l. x.client.node ∷ l) (nodes_through xs)
 
-nodes_in : (view : GroupView) (w : World) → RepresentsGroup view w → nodes_of view ≡ map node_of w.clients
+nodes_in : (view : GroupView) (w : World) → RefinesGroup view w → nodes_of view ≡ map node_of w.clients
 nodes_in view w st = nodes_through view.clients ∙ ap (map node_of) st.clients
 
 -- client c, which has the one view, takes the event, and has the other view then
-module _ (old new : GroupView) (f : Event) (c p : ℕ) (view after : AgentView) (reached : IsGroupWorld old) (place : suc p ≡ c) (here : slice_get old.clients p ≡ Some view)
+module _ (old new : GroupView) (f : Event) (c p : ℕ) (view after : AgentView) (reached : GroupInvariant old) (place : suc p ≡ c) (here : slice_get old.clients p ≡ Some view)
     (same : new.servers ≡ old.servers) (changed : new.clients ≡ slice_set old.clients p after) where
   -- what the event makes of a world
   pub record Moved (w : World) : Type 0 where
     pub turn : agents.AgentTurn
     pub happens : happens w f ≡ after_client w c (Ok turn)
     pub client : after.client ≡ turn.client
-    pub sent : SendsGroup cluster_meaning old.outbox.frames new.outbox.frames (map Service turn.sent)
+    pub sent : SendsGroup cluster_spec old.outbox.frames new.outbox.frames (map Service turn.sent)
     pub work : work_of w f ≡ []
 
   abbrev pub world_after : (w : World) → agents.AgentTurn → World
   world_after w turn = record w { clients = with_client w.clients c turn.client; sent = w.sent ++ map Service turn.sent }
 
-  represents_after : (w : World) → RepresentsGroup old w → (m : Moved w) → RepresentsGroup new (world_after w m.turn)
-  represents_after w st m =
+  refines_after : (w : World) → RefinesGroup old w → (m : Moved w) → RefinesGroup new (world_after w m.turn)
+  refines_after w st m =
       let turn = m.turn in
       let s = m.sent in
       record {
-        servers = subst (λ l. AllZip IsServer l w.servers) (sym same) st.servers;
+        servers = subst (λ l. AllZip RefinesServer l w.servers) (sym same) st.servers;
         clients =
             ap (map client_in) changed
             ∙ (map_set client_in old.clients p after
             ∙ (ap (λ l. slice_set l p after.client) st.clients
             ∙ (ap (λ x. slice_set w.clients p x) m.client ∙ subst (λ k. slice_set w.clients p turn.client ≡ with_client w.clients k turn.client) place refl)));
-        sent = subst (λ l. AllZip (CarriesGroup cluster_meaning) l (w.sent ++ map Service turn.sent)) (sym s.added)
-            (zip_append (CarriesGroup cluster_meaning) old.outbox.frames w.sent s.frames (map Service turn.sent) st.sent s.carry);
+        sent = subst (λ l. AllZip (CarriesGroup cluster_spec) l (w.sent ++ map Service turn.sent)) (sym s.added)
+            (zip_append (CarriesGroup cluster_spec) old.outbox.frames w.sent s.frames (map Service turn.sent) st.sent s.carry);
       }
 
   count_kept : length new.servers ≡ length old.servers
   count_kept = ap length same
 
-  module _ (move : (w : World) → RepresentsGroup old w → Moved w) where
+  module _ (move : (w : World) → RefinesGroup old w → Moved w) where
     nodes_kept : nodes_of new ≡ nodes_of old
     nodes_kept =
         let r = reached.runs in
-        let st = r.represents in
+        let st = r.refines in
         let m = move reached.world st in
-        nodes_in new (world_after reached.world m.turn) (represents_after reached.world st m)
+        nodes_in new (world_after reached.world m.turn) (refines_after reached.world st m)
         ∙ (nodes_stay reached.world f (world_after reached.world m.turn) m.happens ∙ sym (nodes_in old reached.world st))
 
     pub client_goes : EventFits f → new.outbox.work ≡ old.outbox.work → new.trace ≡ old.trace ++ f ∷ [] → new.chain ≡ old.chain → GroupEventHappened old f new
@@ -188,9 +188,9 @@ module _ (old new : GroupView) (f : Event) (c p : ℕ) (view after : AgentView) 
       nodes = nodes_kept;
       trace = trace;
       work = λ w st. let m = move w st in work ∙ (sym (append-nil old.outbox.work) ∙ ap (λ l. old.outbox.work ++ l) (sym m.work));
-      worlds = λ w st. let m = move w st in (world_after w m.turn, m.happens, represents_after w st m);
+      worlds = λ w st. let m = move w st in (world_after w m.turn, m.happens, refines_after w st m);
       runs = λ past w r.
-          let m = move w r.represents in
+          let m = move w r.refines in
           let next = world_after w m.turn in
           let run : LimitedRun (length old.servers) (nodes_of old) (old.trace ++ f ∷ []) (past ++ w ∷ []) next = limits.more f next r.run fits m.happens in
           let height : IsGreatestCommit (logs (past ++ w ∷ [])) (raft_of next) old.chain = height_kept past w next old.chain r.chain refl in (
@@ -201,7 +201,7 @@ module _ (old new : GroupView) (f : Event) (c p : ℕ) (view after : AgentView) 
                   subst (λ n. LimitedRun n (nodes_of new) new.trace (past ++ w ∷ []) next) (sym count_kept)
                   (subst (λ l. LimitedRun (length old.servers) l new.trace (past ++ w ∷ []) next) (sym nodes_kept)
                   (subst (λ es. LimitedRun (length old.servers) (nodes_of old) es (past ++ w ∷ []) next) (sym trace) run));
-              represents = represents_after w r.represents m;
+              refines = refines_after w r.refines m;
               chain = subst (λ h. IsGreatestCommit (logs (past ++ w ∷ [])) (raft_of next) h) (sym chain) height;
             },
           );
@@ -219,7 +219,7 @@ module _ (old new : GroupView) (f : Event) (c p : ℕ) (view after : AgentView) 
         ] in
         (ap (λ (y : NodeSpec). y.number) (sym x.2) ∙ n.0, sized ∙ sym count_kept)
 
-    pub client_reached : after.size ≡ view.size → GroupEventHappened old f new → IsGroupWorld new
+    pub client_reached : after.size ≡ view.size → GroupEventHappened old f new → GroupInvariant new
     client_reached size g =
         let q = g.runs reached.past reached.world reached.runs in
         record {
@@ -251,14 +251,14 @@ pub record ClientStands (view : AgentView) (w : World) (c : ℕ) : Type 0 where
   pub number : view.client.node.number ≡ c
   pub size : view.size ≡ length w.servers
 
-pub client_stands : (old : GroupView) (c : ℕ) (view : AgentView) → IsGroupWorld old → client_view old.clients c ≡ Some view → (w : World) → RepresentsGroup old w → ClientStands view w c
+pub client_stands : (old : GroupView) (c : ℕ) (view : AgentView) → GroupInvariant old → client_view old.clients c ≡ Some view → (w : World) → RefinesGroup old w → ClientStands view w c
 client_stands old zero view reached here w st = absurd (cc)
 client_stands old (suc k) view reached here w st =
     let n = reached.clients k view here in
     record {
       at = subst (λ l. slice_get l k ≡ Some view.client) st.clients (get_map client_in old.clients k view here);
       number = n.0;
-      size = n.1 ∙ zip_length IsServer old.servers w.servers st.servers;
+      size = n.1 ∙ zip_length RefinesServer old.servers w.servers st.servers;
     }
 
 -- the client that was taken from its place
@@ -274,10 +274,10 @@ fetched view = record view { outbox = record view.outbox { work = [] } }
 
 fetched_runs : (view : GroupView) (past : List World) (w : World) → GroupRunsTo view past w → GroupRunsTo (fetched view) past w
 fetched_runs view past w r =
-    let st = r.represents in
-    record { run = r.run; represents = record { servers = st.servers; clients = st.clients; sent = st.sent }; chain = r.chain }
+    let st = r.refines in
+    record { run = r.run; refines = record { servers = st.servers; clients = st.clients; sent = st.sent }; chain = r.chain }
 
-pub fetched_reached : (view : GroupView) → IsGroupWorld view → IsGroupWorld (fetched view)
+pub fetched_reached : (view : GroupView) → GroupInvariant view → GroupInvariant (fetched view)
 fetched_reached view r = record {
   past = r.past;
   world = r.world;
@@ -292,22 +292,22 @@ fetched_reached view r = record {
 
 module _ (old : GroupView) (e : Event) (c : ℕ) (view : AgentView) (given : ClientInput) where
   pub record ClientScene : Type 0 where
-    pub reached : IsGroupWorld old
+    pub reached : GroupInvariant old
     pub here : client_view old.clients c ≡ Some view
     pub fits : EventFits e
-    pub takes : (w : World) → RepresentsGroup old w → ClientTakes view given w e c
+    pub takes : (w : World) → RefinesGroup old w → ClientTakes view given w e c
 
   module _ (s : ClientScene) (limited : LimitsAreKept) (from_members : SendersAreMembers) (awake : IsGroupAwake old e) where
     -- who sent in a run is of the group
     senders_in : (past : List World) (w : World) → GroupRunsTo old past w → SendersIn (length w.servers) w
     senders_in past w r =
         let reached = s.reached in
-        let st = r.represents in
-        subst (λ n. SendersIn n w) (zip_length IsServer old.servers w.servers st.servers) (from_members (length old.servers) (nodes_of old) old.trace past w (limited (length old.servers) (nodes_of old) old.trace past w reached.nodes r.run))
+        let st = r.refines in
+        subst (λ n. SendersIn n w) (zip_length RefinesServer old.servers w.servers st.servers) (from_members (length old.servers) (nodes_of old) old.trace past w (limited (length old.servers) (nodes_of old) old.trace past w reached.nodes r.run))
 
     refuses : (r : Refusal) → ClientRefuses view given r → RefusesGroupEvent old e r
     refuses r says past w run =
-        let t = s.takes w run.represents in
+        let t = s.takes w run.refines in
         t.happens ∙ ap (λ q. after_client w c q) (t.refuses (senders_in past w run) r says)
 
     caused : (r : Refusal) → RefusedSo (Unit {0}) (ClientRefuses view given) r → r ≢ refusals.NoMemory → RefusesGroupEvent old e r
@@ -320,7 +320,7 @@ module _ (old : GroupView) (e : Event) (c : ℕ) (view : AgentView) (given : Cli
 
       taken : ClientTook view (history_of old) given e after (history_of new) → GroupActed old e (Ok done.Taken) new
       taken t =
-          let move : (w : World) → RepresentsGroup old w → Moved old new e c p view after s.reached place here_at same changed w =
+          let move : (w : World) → RefinesGroup old w → Moved old new e c p view after s.reached place here_at same changed w =
           λ w st. let k = s.takes w st in let q = k.taken after old.outbox.frames new.outbox.frames t.steps.taken in
           record { turn = q.turn; happens = k.happens ∙ ap (λ r. after_client w c r) q.is; client = q.client; sent = q.sent; work = k.work } in
           let happened = client_goes old new e c p view after s.reached place here_at same changed move s.fits t.work t.trace t.chain in
@@ -334,7 +334,7 @@ module _ (old : GroupView) (e : Event) (c : ℕ) (view : AgentView) (given : Cli
           let crash = AtClient c agents.Crash in
           let up = alive view.client.life t.crashed.0 in
           let none : new.outbox.frames ≡ old.outbox.frames ++ [] = ap (λ (o : Outbox). o.frames) t.outbox ∙ sym (append-nil old.outbox.frames) in
-          let move : (w : World) → RepresentsGroup old w → Moved old new crash c p view after s.reached place here_at same changed w =
+          let move : (w : World) → RefinesGroup old w → Moved old new crash c p view after s.reached place here_at same changed w =
           λ w st. let k = client_stands old c view s.reached s.here w st in record {
             turn = record { client = record view.client { life = None }; sent = [] };
             happens = crashes w c view.client up.0 k.at up.1;
@@ -376,13 +376,13 @@ module _ (old : GroupView) (e : Event) (c : ℕ) (view : AgentView) (given : Cli
           let is : old ≡ new = sym (as_it_was t.0 t.1) in
           record {
             stepped = record { ok = tt; err = subst (λ x. SameView old x) is (same_group old); cause = caused r t.2; memory = λ none. awake };
-            world = subst IsGroupWorld is s.reached;
+            world = subst GroupInvariant is s.reached;
           }
 
 -- ---- the client stood at place p of the value, which is now this one
 
-module _ (old now : GroupView) (e : Event) (c p : ℕ) (view : AgentView) (given : ClientInput) (seen : old ≡ now) (reached : IsGroupWorld old) (place : suc p ≡ c) (inside : c ≤ length now.clients)
-    (got : view ≡ get_or old.clients p view) (fits : EventFits e) (awake : IsGroupAwake now e) (takes : (w : World) → RepresentsGroup old w → ClientStands view w c → ClientTakes view given w e c) where
+module _ (old now : GroupView) (e : Event) (c p : ℕ) (view : AgentView) (given : ClientInput) (seen : old ≡ now) (reached : GroupInvariant old) (place : suc p ≡ c) (inside : c ≤ length now.clients)
+    (got : view ≡ get_or old.clients p view) (fits : EventFits e) (awake : IsGroupAwake now e) (takes : (w : World) → RefinesGroup old w → ClientStands view w c → ClientTakes view given w e c) where
   scene_there : ClientScene old e c view given
   scene_there =
       let here = client_here old now c p view seen place inside got in

@@ -14,8 +14,8 @@ use Rattle.wire.specs.declared.body.Body.{Body}
 use Rattle.wire.specs.declared.body.Body.TheVariants as bodies
 use Rattle.raft_model.specs.Rafts.{is_up}
 use Rattle.raft_core.specs.Refusals.{is_server_of, is_server_at}
-use Rattle.cluster_model.specs.Words.{State}
-use Rattle.cluster_model.specs.ClusterMachine.{cluster_meaning}
+use Rattle.fsm_model.specs.Words.{State}
+use Rattle.fsm_model.specs.ClusterMachine.{cluster_spec}
 use Rattle.group_model.specs.Messages.{GroupMessage, OfLog, Service, ServiceMessage, BetweenServers, ToServer, ToClient, ClientResponse}
 use Rattle.group_model.specs.Inputs as inputs
 use Rattle.group_model.specs.Agents as agents
@@ -51,17 +51,17 @@ pub record Comes (frames : List Frame) (place : ℕ) (w : World) (to : Actor) : 
   pub message : GroupMessage
   pub at : slice_get w.sent place ≡ Some message
   pub is_to : receiver_of message ≡ to
-  pub bytes : IsGroupFrame cluster_meaning (bytes_of (slice_get frames place)) message
+  pub bytes : IsGroupFrame cluster_spec (bytes_of (slice_get frames place)) message
 
-pub comes : (frames : List Frame) (place : ℕ) (w : World) (to : Actor) → AllZip (CarriesGroup cluster_meaning) frames w.sent → IsSentTo frames place to → Comes frames place w to
+pub comes : (frames : List Frame) (place : ℕ) (w : World) (to : Actor) → AllZip (CarriesGroup cluster_spec) frames w.sent → IsSentTo frames place to → Comes frames place w to
 comes frames place w to z sent =
-    let x = zip_at (CarriesGroup cluster_meaning) frames w.sent place sent.frame z sent.at in
+    let x = zip_at (CarriesGroup cluster_spec) frames w.sent place sent.frame z sent.at in
     let c = x.2 in
     record {
       message = x.0;
       at = x.1;
       is_to = sym c.to ∙ sent.is_to;
-      bytes = subst (λ o. IsGroupFrame cluster_meaning (bytes_of o) x.0) (sym sent.at) c.bytes;
+      bytes = subst (λ o. IsGroupFrame cluster_spec (bytes_of o) x.0) (sym sent.at) c.bytes;
     }
 
 -- ---- its bytes
@@ -100,7 +100,7 @@ goes (actors.Client c) (actors.Client d) _ x is = absurd (cc is)
 -- the bytes are read as the message
 record ReadAs (bytes : List ℕ) (x : GroupMessage) : Type 0 where
   read : WireMessage State Command
-  is : message_at cluster_meaning bytes ≡ Ok read
+  is : message_at cluster_spec bytes ≡ Ok read
   from_is : read.from ≡ sender_of x
   to_is : read.to ≡ receiver_of x
 
@@ -110,15 +110,15 @@ sender_in n (Service (BetweenServers from to message)) inside = lt-ltb from n in
 sender_in n (Service (ToServer client server request)) inside = refl
 sender_in n (Service (ToClient server client response)) inside = lt-ltb server n inside
 
-module _ (again : (y : WireMessage State Command) → MessageFits cluster_meaning y → message_at cluster_meaning (message_text cluster_meaning y) ≡ Ok y) where
-  reads : (bytes : List ℕ) (x : GroupMessage) → IsGroupFrame cluster_meaning bytes x → ReadAs bytes x
-  reads bytes (OfLog message) f = record { read = f.read; is = ap (λ t. message_at cluster_meaning t) f.text ∙ again f.read f.fits; from_is = f.means.from; to_is = f.means.to }
+module _ (again : (y : WireMessage State Command) → MessageFits cluster_spec y → message_at cluster_spec (message_text cluster_spec y) ≡ Ok y) where
+  reads : (bytes : List ℕ) (x : GroupMessage) → IsGroupFrame cluster_spec bytes x → ReadAs bytes x
+  reads bytes (OfLog message) f = record { read = f.read; is = ap (λ t. message_at cluster_spec t) f.text ∙ again f.read f.fits; from_is = f.means.from; to_is = f.means.to }
   reads bytes (Service message) f =
       let g = goes f.read.from f.read.to f.read.body message f.means in
-      record { read = f.read; is = ap (λ t. message_at cluster_meaning t) f.text ∙ again f.read f.fits; from_is = g.from_is; to_is = g.to_is }
+      record { read = f.read; is = ap (λ t. message_at cluster_spec t) f.text ∙ again f.read f.fits; from_is = g.from_is; to_is = g.to_is }
 
   -- what was sent to this server is not refused for its bytes
-  readable : (n me : ℕ) (bytes : List ℕ) (x : GroupMessage) → IsGroupFrame cluster_meaning bytes x → IsFromMember n x → receiver_of x ≡ actors.Server me → bytes_refusal n me bytes ≡ None
+  readable : (n me : ℕ) (bytes : List ℕ) (x : GroupMessage) → IsGroupFrame cluster_spec bytes x → IsFromMember n x → receiver_of x ≡ actors.Server me → bytes_refusal n me bytes ≡ None
   readable n me bytes x f from to =
       let r = reads bytes x f in
       let sender : is_of_group n r.read.from ≡ true = ap (λ a. is_of_group n a) r.from_is ∙ sender_in n x from in
@@ -126,7 +126,7 @@ module _ (again : (y : WireMessage State Command) → MessageFits cluster_meanin
       ap (λ q. read_refusal n me q) r.is ∙ rw (sender, receiver) refl
 
   -- nor what was sent to this client
-  readable_to_client : (n me from : ℕ) (response : ClientResponse) (bytes : List ℕ) → IsGroupFrame cluster_meaning bytes (Service (ToClient from me response)) → IsFromMember n (Service (ToClient from me response)) → client_frame_refusal n me bytes ≡ None
+  readable_to_client : (n me from : ℕ) (response : ClientResponse) (bytes : List ℕ) → IsGroupFrame cluster_spec bytes (Service (ToClient from me response)) → IsFromMember n (Service (ToClient from me response)) → client_frame_refusal n me bytes ≡ None
   readable_to_client n me from response bytes f inside =
       let r = reads bytes (Service (ToClient from me response)) f in
       let sender : is_server_of n r.read.from ≡ true = ap (λ a. is_server_of n a) r.from_is ∙ lt-ltb from n inside in
@@ -170,8 +170,8 @@ pub down_takes : (n i : ℕ) (s : Server) (x : GroupMessage) → is_up s.raft.mo
 down_takes n i s (OfLog message) down = rw down refl
 down_takes n i s (Service message) down = rw down refl
 
-pub sent_to_server : ((y : WireMessage State Command) → MessageFits cluster_meaning y → message_at cluster_meaning (message_text cluster_meaning y) ≡ Ok y) →
-    (view : ServerView) (frames : List Frame) (place : ℕ) (w : World) (i : ℕ) (s : Server) → AllZip (CarriesGroup cluster_meaning) frames w.sent → IsSentTo frames place (actors.Server i) →
+pub sent_to_server : ((y : WireMessage State Command) → MessageFits cluster_spec y → message_at cluster_spec (message_text cluster_spec y) ≡ Ok y) →
+    (view : ServerView) (frames : List Frame) (place : ℕ) (w : World) (i : ℕ) (s : Server) → AllZip (CarriesGroup cluster_spec) frames w.sent → IsSentTo frames place (actors.Server i) →
     view.raft.me ≡ i → view.raft.size ≡ length w.servers → slice_get w.servers i ≡ Some s → ServerTakes view (FrameBytes (bytes_of (slice_get frames place))) w (Deliver place) i s
 sent_to_server again view frames place w i s z sent me size here =
     let c = comes frames place w (actors.Server i) z sent in
@@ -206,8 +206,8 @@ pub down_hears : (n : ℕ) (c : Agent) (life : Option Life) (from : ℕ) (respon
 down_hears n c None from response down = refl
 down_hears n c (Some l) from response down = absurd (cc down)
 
-pub sent_to_client : ((y : WireMessage State Command) → MessageFits cluster_meaning y → message_at cluster_meaning (message_text cluster_meaning y) ≡ Ok y) →
-    (view : AgentView) (frames : List Frame) (place : ℕ) (w : World) (c : ℕ) → AllZip (CarriesGroup cluster_meaning) frames w.sent → IsSentTo frames place (actors.Client c) →
+pub sent_to_client : ((y : WireMessage State Command) → MessageFits cluster_spec y → message_at cluster_spec (message_text cluster_spec y) ≡ Ok y) →
+    (view : AgentView) (frames : List Frame) (place : ℕ) (w : World) (c : ℕ) → AllZip (CarriesGroup cluster_spec) frames w.sent → IsSentTo frames place (actors.Client c) →
     view.client.node.number ≡ c → view.size ≡ length w.servers → client_at w.clients c ≡ Some view.client → ClientTakes view (client_inputs.Frame (bytes_of (slice_get frames place))) w (Deliver place) c
 sent_to_client again view frames place w c z sent number size here =
     let m = comes frames place w (actors.Client c) z sent in
@@ -215,13 +215,13 @@ sent_to_client again view frames place w c z sent number size here =
     let bytes = bytes_of (slice_get frames place) in
     let q = for_client m.message c m.is_to in
     let at : slice_get w.sent place ≡ Some (Service (ToClient q.0 c q.1)) = m.at ∙ ap (λ x. Some x) q.2 in
-    let frame : IsGroupFrame cluster_meaning bytes (Service (ToClient q.0 c q.1)) = subst (λ x. IsGroupFrame cluster_meaning bytes x) q.2 m.bytes in
+    let frame : IsGroupFrame cluster_spec bytes (Service (ToClient q.0 c q.1)) = subst (λ x. IsGroupFrame cluster_spec bytes x) q.2 m.bytes in
     let input : agents.Input = agents.Arrives q.0 q.1 in
     record {
       turns = agents.step n view.client input;
       happens = ap (λ o. delivers w o) at ∙ ap (λ o. client_input_to w c input o) here;
       taken = λ new before after t. turned view w c here size input new before after
-          (t input (q.0, q.1, subst (λ k. IsServiceFrame cluster_meaning bytes (ToClient q.0 k q.1)) (sym number) frame, refl));
+          (t input (q.0, q.1, subst (λ k. IsServiceFrame cluster_spec bytes (ToClient q.0 k q.1)) (sym number) frame, refl));
       work = ap (λ o. message_work w o) at;
       crash = ap (λ o. crash_of_message o) at;
       wants = λ may. tt;

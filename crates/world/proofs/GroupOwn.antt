@@ -6,7 +6,7 @@ use Rattle.rows.specs.declared.refusal.Refusal.{Refusal}
 use Rattle.wire.specs.Frames.{Frame}
 use Rattle.raft_model.specs.Rafts.{is_up, silent, restarted}
 use Rattle.raft_model.specs.Steps as raft_steps
-use Rattle.cluster_model.specs.ClusterMachine.{cluster_meaning}
+use Rattle.fsm_model.specs.ClusterMachine.{cluster_spec}
 use Rattle.group_model.specs.Inputs.{Input, Timeout, Beat, Request, TakeFrom, SubmitTo, FinishAt, NackAt, PlanTurn, Lapse, Expire, DrainTurn, FreeTurn, Reap, Compact, Crash, Restart, Act, AskRestart, asks}
 use Rattle.group_model.specs.Servers.{Server, ServerTurn, acts, wakes, logged, done, step}
 use Rattle.group_model.specs.Agents as agents
@@ -15,18 +15,18 @@ use Rattle.group_inputs.specs.declared.client_input.ClientInput.{ClientInput}
 use Rattle.group_inputs.specs.declared.client_input.ClientInput.TheVariants as client_inputs
 use Rattle.client_agent.specs.AgentView.{AgentView}
 use Rattle.client_agent.specs.Steps.{AgentSteps, AgentTakes}
-use Rattle.client_agent.specs.Refusals.{AgentMayLack, agent_refusal}
+use Rattle.client_agent.specs.Refusals.{AgentMayEndOutOfMemory, agent_refusal}
 use Rattle.server.specs.declared.server.Outbox.{Outbox}
 use Rattle.group_inputs.specs.declared.server_input.ServerInput.{ServerInput}
 use Rattle.group_inputs.specs.declared.server_input.ServerInput.TheVariants as inputs
 use Rattle.server.specs.ServerViews.{ServerView}
 use Rattle.group_inputs.specs.Handings.{OwnInput, handing}
 use Rattle.server.specs.Steps.{TakesTurn}
-use Rattle.server.specs.Refusals.{MayTakeMemory, refusal_in}
+use Rattle.server.specs.Refusals.{OutOfMemoryMayEnd, refusal_in}
 use Rattle.actor.specs.Handed.{comes_as_frame, is_client_frame, restarts_server}
 use Rattle.group_inputs.specs.Events.{server_input, client_input}
 use Rattle.world.specs.GroupWork.{input_work}
-use Rattle.world.specs.GroupSteps.{RunsThere, MayWantAt}
+use Rattle.world.specs.GroupSteps.{RunsThere, OutOfMemoryMayEndAt}
 use Rattle.world.proofs.GroupScenes.{ServerTakes, ClientTurned, ClientTakes}
 
 refusal_is : (q : Result ServerTurn Refusal) (r : Refusal) → refusal_in q ≡ Some r → q ≡ Err r
@@ -43,8 +43,8 @@ client_refusal_is (Err e) r h = let same : e ≡ r = cc in ap (λ x. Err x) same
 pub woken : (n i : ℕ) (s : Server) → is_up s.raft.mode ≡ false → (turn : ServerTurn) × (step n i s Restart ≡ Ok turn)
 woken n i s down =
     let act : Act = asks AskRestart s.desk in
-    let asked : step n i s Restart ≡ logged s act (raft_steps.step cluster_meaning n i s.raft raft_steps.Restart) = ap (λ b. done n i s (if b then acts n i s Restart else wakes s Restart)) down in
-    let taken : raft_steps.step cluster_meaning n i s.raft raft_steps.Restart ≡ Ok (silent (restarted s.raft)) = rw down refl in
+    let asked : step n i s Restart ≡ logged s act (raft_steps.step cluster_spec n i s.raft raft_steps.Restart) = ap (λ b. done n i s (if b then acts n i s Restart else wakes s Restart)) down in
+    let taken : raft_steps.step cluster_spec n i s.raft raft_steps.Restart ≡ Ok (silent (restarted s.raft)) = rw down refl in
     (_, asked ∙ ap (λ q. logged s act q) taken)
 
 module _ (view : ServerView) (w : World) (i : ℕ) (s : Server) (me : view.raft.me ≡ i) (size : view.raft.size ≡ length w.servers) (here : slice_get w.servers i ≡ Some s) where
@@ -53,11 +53,11 @@ module _ (view : ServerView) (w : World) (i : ℕ) (s : Server) (me : view.raft.
       subst (λ m. TakesTurn (step (length w.servers) m s input) new before after) me
       (subst (λ n. TakesTurn (step n view.raft.me s input) new before after) size t)
 
-  same_server : (input : Input) → MayTakeMemory (length w.servers) s input → (t : Server) → slice_get w.servers i ≡ Some t → MayTakeMemory (length w.servers) t input
-  same_server input may t there = subst (λ x. MayTakeMemory (length w.servers) x input) (same_Some s t (sym here ∙ there)) may
+  same_server : (input : Input) → OutOfMemoryMayEnd (length w.servers) s input → (t : Server) → slice_get w.servers i ≡ Some t → OutOfMemoryMayEnd (length w.servers) t input
+  same_server input may t there = subst (λ x. OutOfMemoryMayEnd (length w.servers) x input) (same_Some s t (sym here ∙ there)) may
 
   -- an input that is no arrival
-  own : (input : Input) → own_input w i input ≡ takes_input w i input → (((t : Server) → slice_get w.servers i ≡ Some t → MayTakeMemory (length w.servers) t input) → MayWantAt w (AtServer i input)) →
+  own : (input : Input) → own_input w i input ≡ takes_input w i input → (((t : Server) → slice_get w.servers i ≡ Some t → OutOfMemoryMayEnd (length w.servers) t input) → OutOfMemoryMayEndAt w (AtServer i input)) →
       (restarts_server (OwnInput input) ≡ true → IsRestart (AtServer i input)) →
       (restarts_server (OwnInput input) ≡ true → is_up s.raft.mode ≡ false → (turn : ServerTurn) × (step (length w.servers) i s input ≡ Ok turn)) → ServerTakes view (OwnInput input) w (AtServer i input) i s
   own input is wants starts rises = record {
@@ -73,7 +73,7 @@ module _ (view : ServerView) (w : World) (i : ℕ) (s : Server) (me : view.raft.
   }
 
   -- and no restart
-  plain : (input : Input) → own_input w i input ≡ takes_input w i input → (((t : Server) → slice_get w.servers i ≡ Some t → MayTakeMemory (length w.servers) t input) → MayWantAt w (AtServer i input)) →
+  plain : (input : Input) → own_input w i input ≡ takes_input w i input → (((t : Server) → slice_get w.servers i ≡ Some t → OutOfMemoryMayEnd (length w.servers) t input) → OutOfMemoryMayEndAt w (AtServer i input)) →
       restarts_server (OwnInput input) ≡ false → ServerTakes view (OwnInput input) w (AtServer i input) i s
   plain input is wants other = own input is wants (λ so. absurd (cc)) (λ so. absurd (cc))
 
@@ -112,7 +112,7 @@ module _ (view : AgentView) (w : World) (c : ℕ) (here : client_at w.clients c 
   }
 
   own_of : (given : ClientInput) (input : agents.Input) → own_client_input w c input ≡ client_takes w c input → ((new : AgentView) (before after : List Frame) → AgentTakes view given new before after → AgentSteps view input new before after) →
-      agent_refusal view.size view.client given ≡ result_err (agents.step view.size view.client input) → (AgentMayLack view.size view.client given → MayWantAt w (AtClient c input)) → ClientTakes view given w (AtClient c input) c
+      agent_refusal view.size view.client given ≡ result_err (agents.step view.size view.client input) → (AgentMayEndOutOfMemory view.size view.client given → OutOfMemoryMayEndAt w (AtClient c input)) → ClientTakes view given w (AtClient c input) c
   own_of given input is steps says wants = record {
     turns = agents.step (length w.servers) view.client input;
     happens = is ∙ ap (λ o. client_input_to w c input o) here;

@@ -15,11 +15,11 @@ use Rattle.server.specs.declared.server.Outbox.{Outbox}
 use Rattle.world.specs.declared.done.Done.{Done}
 use Rattle.world.specs.declared.done.Done.TheVariants.{Taken, Crashed}
 use Rattle.group_inputs.specs.declared.event.Event.{Event as GroupEvent}
-use Rattle.world.specs.Steps.{EachBecame, Lacked}
+use Rattle.world.specs.Steps.{EachBecame, WasOutOfMemory}
 use Rattle.group_inputs.specs.Events.{group_event, group_events}
 use Rattle.world.specs.GroupWork.{work_of, works}
 use Rattle.world.specs.GroupView.{GroupView, GroupRunsTo, nodes_of, renumbered}
-use Rattle.world.specs.GroupSteps.{MayWantAt, MightWant, GroupStarved, GroupMayBecome, GroupEventHappened, IsGroupDone, GroupStaysDown, SameView, RefusesGroupEvent, IsNewGroup, GroupPlayed, GroupReplays}
+use Rattle.world.specs.GroupSteps.{OutOfMemoryMayEndAt, WasOutOfMemoryAllowed, GroupOutOfMemoryCrash, GroupMayBecome, GroupEventHappened, IsGroupDone, GroupStaysDown, SameView, RefusesGroupEvent, IsNewGroup, GroupPlayed, GroupReplays}
 use Rattle.world.proofs.Outcomes.{place_after, place_more, became_more, became_map}
 use Rattle.world.proofs.Runs.{ends_alike, no_end}
 use Rattle.world.proofs.GroupBegins.{new_group_runs}
@@ -55,7 +55,7 @@ place_is n nodes events trace outcomes past w (crashed {events = es} {trace = ts
 place_is n nodes events trace outcomes past w (left_out {events = es} {trace = ts} {outcomes = os} {past = before} {w = last} e r t left) =
     place_more 0 os (LeftOut r) ∙ place_is n nodes es ts os before last t
 
-abbrev wants_on : (past : List World) (w next : World) (place : ℕ) (e : Event) → MightWant past w place e → MightWant (past ++ w ∷ []) next place e
+abbrev wants_on : (past : List World) (w next : World) (place : ℕ) (e : Event) → WasOutOfMemoryAllowed past w place e → WasOutOfMemoryAllowed (past ++ w ∷ []) next place e
 wants_on past w next place e x = record { before = x.before; before_is = get-more (past ++ w ∷ []) (next ∷ []) place x.before x.before_is; lacking = x.lacking }
 
 stands_on : (trace : List Event) (past : List World) (w next : World) (c : Event) (place : ℕ) (e : Event) (o : Outcome) → GroupMayBecome trace past w place e o → GroupMayBecome (trace ++ c ∷ []) (past ++ w ∷ []) next place e o
@@ -73,10 +73,10 @@ became_on : (trace : List Event) (past : List World) (w next : World) (c : Event
 became_on trace past w next c handed outcomes all =
     became_map (GroupMayBecome trace past w) (GroupMayBecome (trace ++ c ∷ []) (past ++ w ∷ []) next) (λ place e o became. stands_on trace past w next c place e o became) 0 handed outcomes all
 
-abbrev wants_now : (past : List World) (w : World) (place : ℕ) (e : Event) → place ≡ length past → MayWantAt w e → MightWant past w place e
+abbrev wants_now : (past : List World) (w : World) (place : ℕ) (e : Event) → place ≡ length past → OutOfMemoryMayEndAt w e → WasOutOfMemoryAllowed past w place e
 wants_now past w place e due lacking = record { before = w; before_is = subst (λ k. slice_get (past ++ w ∷ []) k ≡ Some w) (sym due) (get-last past w); lacking = lacking }
 
-starved_now : (trace : List Event) (past : List World) (w next : World) (place : ℕ) (e crash : Event) → place ≡ length past → length past ≡ length trace → crash_of w e ≡ Some crash → MayWantAt w e → GroupStarved (trace ++ crash ∷ []) (past ++ w ∷ []) next place e
+starved_now : (trace : List Event) (past : List World) (w next : World) (place : ℕ) (e crash : Event) → place ≡ length past → length past ≡ length trace → crash_of w e ≡ Some crash → OutOfMemoryMayEndAt w e → GroupOutOfMemoryCrash (trace ++ crash ∷ []) (past ++ w ∷ []) next place e
 starved_now trace past w next place e crash due same is lacking = record {
   due = wants_on past w next place e (wants_now past w place e due lacking);
   crash = crash;
@@ -124,10 +124,10 @@ module _ (n : ℕ) (nodes : List NodeSpec) where
         outcomes = p.outcomes ++ LeftOut refusals.NoMemory ∷ [];
         past = p.past;
         world = p.world;
-        trace = left_out e refusals.NoMemory p.trace (inr (s.restart, s.could p.world runs.represents, refl));
+        trace = left_out e refusals.NoMemory p.trace (inr (s.restart, s.could p.world runs.refines, refl));
         runs = p.runs;
         became = became_more (GroupMayBecome old.trace p.past p.world) 0 handed p.outcomes e (LeftOut refusals.NoMemory) p.became
-            (λ is. wants_now p.past p.world (place_after 0 p.outcomes) e (place_is n (renumbered 1 nodes) handed old.trace p.outcomes p.past p.world p.trace) (s.lacking p.world runs.represents));
+            (λ is. wants_now p.past p.world (place_after 0 p.outcomes) e (place_is n (renumbered 1 nodes) handed old.trace p.outcomes p.past p.world p.trace) (s.lacking p.world runs.refines));
         work = p.work;
       })
 
@@ -135,7 +135,7 @@ module _ (n : ℕ) (nodes : List NodeSpec) where
   worked : (handed : List Event) (old new : GroupView) (e : Event) (p : GroupPlayed n nodes handed old) → GroupEventHappened old e new → new.outbox.work ≡ works (p.past ++ p.world ∷ []) new.trace
   worked handed old new e p h =
       let runs = p.runs in
-      h.work p.world runs.represents
+      h.work p.world runs.refines
       ∙ (ap (λ l. l ++ work_of p.world e) p.work
       ∙ (sym (works_more p.past old.trace p.world e (run_length (length old.servers) (nodes_of old) old.trace p.past p.world runs.run)) ∙ ap (works (p.past ++ p.world ∷ [])) (sym h.trace)))
 
@@ -176,11 +176,11 @@ module _ (n : ℕ) (nodes : List NodeSpec) where
             past = p.past ++ p.world ∷ [];
             world = q.0;
             trace = subst (λ es. Trace n (renumbered 1 nodes) (handed ++ e ∷ []) (p.outcomes ++ OutcomeCrashed ∷ []) es (p.past ++ p.world ∷ []) q.0) (sym happened.trace)
-                (crashed e f.crash q.0 p.trace (f.actor p.world runs.represents) q.1);
+                (crashed e f.crash q.0 p.trace (f.actor p.world runs.refines) q.1);
             runs = q.2;
             became = subst (λ ts. EachBecame (GroupMayBecome ts (p.past ++ p.world ∷ []) q.0) 0 (handed ++ e ∷ []) (p.outcomes ++ OutcomeCrashed ∷ [])) (sym happened.trace)
                 (became_more (GroupMayBecome (old.trace ++ f.crash ∷ []) (p.past ++ p.world ∷ []) q.0) 0 handed p.outcomes e OutcomeCrashed (became_on old.trace p.past p.world q.0 f.crash handed p.outcomes p.became)
-                (starved_now old.trace p.past p.world q.0 (place_after 0 p.outcomes) e f.crash (place_is n (renumbered 1 nodes) handed old.trace p.outcomes p.past p.world p.trace) (run_length (length old.servers) (nodes_of old) old.trace p.past p.world runs.run) (f.actor p.world runs.represents) (f.lacking p.world runs.represents)));
+                (starved_now old.trace p.past p.world q.0 (place_after 0 p.outcomes) e f.crash (place_is n (renumbered 1 nodes) handed old.trace p.outcomes p.past p.world p.trace) (run_length (length old.servers) (nodes_of old) old.trace p.past p.world runs.run) (f.actor p.world runs.refines) (f.lacking p.world runs.refines)));
             work = worked handed old new f.crash p happened;
           }
       | inr s ↦ stayed_down handed old new e p s
@@ -197,12 +197,12 @@ module _ (n : ℕ) (nodes : List NodeSpec) where
     place : ℕ
     outcome : Outcome
     at : slice_get outcomes place ≡ Some outcome
-    lacked : Lacked outcome
+    lacked : WasOutOfMemory outcome
 
   lack_on : (outcomes : List Outcome) (o : Outcome) → Lack outcomes → Lack (outcomes ++ o ∷ [])
   lack_on outcomes o l = record { place = l.place; outcome = l.outcome; at = get-more outcomes (o ∷ []) l.place l.outcome l.at; lacked = l.lacked }
 
-  lack_now : (outcomes : List Outcome) (o : Outcome) → Lacked o → Lack (outcomes ++ o ∷ [])
+  lack_now : (outcomes : List Outcome) (o : Outcome) → WasOutOfMemory o → Lack (outcomes ++ o ∷ [])
   lack_now outcomes o l = record { place = length outcomes; outcome = o; at = get-last outcomes o; lacked = l }
 
   -- each event was kept, on the way of the run

@@ -6,7 +6,7 @@ use Rattle.group_model.specs.Worlds as model
 use Rattle.group_model.specs.Worlds.{World, Event, Run, IsEvent, happens, raft_of}
 use Rattle.group_safety.specs.Claims.{OneList, OneExists, AsLongAsCommitted, OfTheList, SafeStates, PlansAreBacked, StartsArePlaced, logs}
 use Rattle.group_safety.specs.Limits.{LimitedRun, LimitsAreKept, start, more}
-use Rattle.world.specs.GroupView.{GroupView, GroupRunsTo, IsGroupWorld, nodes_of}
+use Rattle.world.specs.GroupView.{GroupView, GroupRunsTo, GroupInvariant, nodes_of}
 use Rattle.world.specs.GroupClaims.{OneGroupList, SafeGroupStates, BackedPlans, PlacedStarts, GroupHeadline}
 use Rattle.world.proofs.Runs.{ends_alike, no_end}
 
@@ -41,7 +41,7 @@ group_runs_are_one view past past2 w w2 one other = group_run_is_one (length vie
 
 -- ---- what holds of every group that was reached
 
-module _ (view : GroupView) (r : IsGroupWorld view) (limits : LimitsAreKept) where
+module _ (view : GroupView) (r : GroupInvariant view) (limits : LimitsAreKept) where
   -- its runs are runs of the definitions
   group_run : (past : List World) (w : World) → GroupRunsTo view past w → Run (length view.servers) (nodes_of view) view.trace past w
   group_run past w q = limits (length view.servers) (nodes_of view) view.trace past w r.nodes q.run

@@ -3,7 +3,7 @@ use Rattle.std.proofs.Common.{◌≡◌, ℕ, true, false, Some, Result, Ok, Err
 use Rattle.rows.specs.declared.refusal.Refusal.{Refusal}
 use Rattle.wire.specs.Frames.{Frame}
 use Rattle.raft_model.specs.Rafts.{is_up}
-use Rattle.cluster_model.specs.ClusterMachine.{cluster_meaning}
+use Rattle.fsm_model.specs.ClusterMachine.{cluster_spec}
 use Rattle.group_model.specs.Messages.{GroupMessage, Service}
 use Rattle.group_model.specs.Inputs as inputs
 use Rattle.group_model.specs.Agents as agents
@@ -14,15 +14,15 @@ use Rattle.group_frames.specs.GroupFrames.{SendsGroup}
 use Rattle.group_inputs.specs.declared.client_input.ClientInput.{ClientInput}
 use Rattle.client_agent.specs.AgentView.{AgentView}
 use Rattle.client_agent.specs.Steps.{AgentTakes}
-use Rattle.client_agent.specs.Refusals.{AgentMayLack, agent_refusal}
+use Rattle.client_agent.specs.Refusals.{AgentMayEndOutOfMemory, agent_refusal}
 use Rattle.server.specs.declared.server.Outbox.{Outbox}
 use Rattle.server.specs.ServerViews.{ServerView}
 use Rattle.group_inputs.specs.Handings.{Handing}
 use Rattle.server.specs.Steps.{TakesHanding, TakesTurn}
-use Rattle.server.specs.Refusals.{MayLackMemory, handing_refusal}
+use Rattle.server.specs.Refusals.{MayEndOutOfMemory, handing_refusal}
 use Rattle.actor.specs.Handed.{restarts_server}
 use Rattle.world.specs.GroupWork.{work_of, turn_work}
-use Rattle.world.specs.GroupSteps.{MayWantAt}
+use Rattle.world.specs.GroupSteps.{OutOfMemoryMayEndAt}
 
 -- all that was sent came from the group of n
 abbrev pub SendersIn : ℕ → World → Type 0
@@ -35,7 +35,7 @@ pub record ServerTakes (view : ServerView) (h : Handing) (w : World) (e : Event)
   pub taken : (new : ServerView) (before after : Outbox) → TakesHanding view s h new before after → TakesTurn turns new before after
   pub work : work_of w e ≡ turn_work turns
   pub crash : crash_of w e ≡ Some (AtServer i inputs.Crash)
-  pub wants : MayLackMemory (length w.servers) s h → MayWantAt w e
+  pub wants : MayEndOutOfMemory (length w.servers) s h → OutOfMemoryMayEndAt w e
   pub refuses : SendersIn (length w.servers) w → (r : Refusal) → handing_refusal (length w.servers) i s h ≡ Some r → turns ≡ Err r
   pub restart : restarts_server h ≡ true → IsRestart e
   pub wakes : restarts_server h ≡ true → is_up s.raft.mode ≡ false → (turn : ServerTurn) × (turns ≡ Ok turn)
@@ -45,7 +45,7 @@ pub record ClientTurned (turns : Result agents.AgentTurn Refusal) (new : AgentVi
   pub turn : agents.AgentTurn
   pub is : turns ≡ Ok turn
   pub client : new.client ≡ turn.client
-  pub sent : SendsGroup cluster_meaning before after (map Service turn.sent)
+  pub sent : SendsGroup cluster_spec before after (map Service turn.sent)
 
 -- in this world the event is that client c, which has this view, is handed `given`
 pub record ClientTakes (view : AgentView) (given : ClientInput) (w : World) (e : Event) (c : ℕ) : Type 0 where
@@ -54,5 +54,5 @@ pub record ClientTakes (view : AgentView) (given : ClientInput) (w : World) (e :
   pub taken : (new : AgentView) (before after : List Frame) → AgentTakes view given new before after → ClientTurned turns new before after
   pub work : work_of w e ≡ []
   pub crash : crash_of w e ≡ Some (AtClient c agents.Crash)
-  pub wants : AgentMayLack view.size view.client given → MayWantAt w e
+  pub wants : AgentMayEndOutOfMemory view.size view.client given → OutOfMemoryMayEndAt w e
   pub refuses : SendersIn (length w.servers) w → (r : Refusal) → agent_refusal view.size view.client given ≡ Some r → turns ≡ Err r

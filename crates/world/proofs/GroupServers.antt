@@ -12,8 +12,8 @@ use Rattle.raft_model.specs.Rafts.{is_up, silent, crashed}
 use Rattle.raft_model.specs.Steps.{Crash as LogCrash, step as log_step}
 use Rattle.raft_safety.specs.Claims.{IsGreatestCommit}
 use Rattle.raft_safety.proofs.Places.{get_set-cases, set-length}
-use Rattle.cluster_model.specs.Words.{State}
-use Rattle.cluster_model.specs.ClusterMachine.{cluster_meaning}
+use Rattle.fsm_model.specs.Words.{State}
+use Rattle.fsm_model.specs.ClusterMachine.{cluster_spec}
 use Rattle.group_model.specs.Inputs.{Crash, Restart, AskCrash, asks}
 use Rattle.group_model.specs.Servers.{Server, ServerTurn, acts, wakes, done as turn_of, logged, step}
 use Rattle.group_model.specs.Worlds.{World, Event, Deliver, AtServer, Run, happens, after_turn, input_to, raft_of}
@@ -22,19 +22,19 @@ use Rattle.group_safety.specs.Limits.{InputFits, EventFits, NodesFit, LimitedRun
 use Rattle.group_safety.proofs.Lists.{set_same}
 use Rattle.group_frames.specs.GroupFrames.{CarriesGroup, SendsGroup}
 use Rattle.server.specs.declared.server.Outbox.{Outbox}
-use Rattle.server.specs.ServerViews.{ServerView, IsServer, SameServer, crashed_server}
+use Rattle.server.specs.ServerViews.{ServerView, RefinesServer, SameServer, crashed_server}
 use Rattle.server.proofs.Servers.{same_is}
 use Rattle.group_inputs.specs.declared.server_input.ServerInput.{ServerInput}
 use Rattle.group_inputs.specs.Handings.{Handing, FrameBytes, OwnInput, handing}
 use Rattle.server.specs.SentBytes.{bytes_of}
-use Rattle.server.specs.Refusals.{MayLackMemory, handing_refusal}
+use Rattle.server.specs.Refusals.{MayEndOutOfMemory, handing_refusal}
 use Rattle.world.specs.declared.done.Done.{Done}
 use Rattle.world.specs.declared.done.Done.TheVariants as done
 use Rattle.rows.specs.GroupSizes.{IsGroup}
 use Rattle.group_inputs.specs.Events.{server_input}
 use Rattle.world.specs.GroupWork.{work_of, input_work, turn_work}
-use Rattle.world.specs.GroupView.{GroupView, RepresentsGroup, GroupRunsTo, IsGroupWorld, IsSentTo, ServersKnowNumbers, ClientsKnowNumbers, nodes_of, node_in, client_in}
-use Rattle.world.specs.GroupSteps.{GroupEventHappened, SameView, RefusesGroupEvent, IsGroupAwake, MayWantAt}
+use Rattle.world.specs.GroupView.{GroupView, RefinesGroup, GroupRunsTo, GroupInvariant, IsSentTo, ServersKnowNumbers, ClientsKnowNumbers, nodes_of, node_in, client_in}
+use Rattle.world.specs.GroupSteps.{GroupEventHappened, SameView, RefusesGroupEvent, IsGroupAwake, OutOfMemoryMayEndAt}
 use Rattle.world.specs.Inner.Inputs.{committed}
 use Rattle.actor.specs.Handed.{comes_as_frame, restarts_server}
 use Rattle.actor.specs.Refusals.{RefusedSo, ServerRefuses}
@@ -52,10 +52,10 @@ history_of v = record { outbox = v.outbox; trace = v.trace; chain = v.chain }
 -- what became of an event, of which the world says so
 pub record GroupActed (old : GroupView) (e : Event) (result : Result Done Refusal) (new : GroupView) : Type 0 where
   pub stepped : GroupStepped old e result new
-  pub world : IsGroupWorld new
+  pub world : GroupInvariant new
 
 -- a server that is down may want memory to start again
-restart_lacks : (n : ℕ) (s : Server) (h : Handing) → restarts_server h ≡ true → is_up s.raft.mode ≡ false → MayLackMemory n s h
+restart_lacks : (n : ℕ) (s : Server) (h : Handing) → restarts_server h ≡ true → is_up s.raft.mode ≡ false → MayEndOutOfMemory n s h
 restart_lacks n s (FrameBytes bytes) so down = absurd (cc)
 restart_lacks n s (OwnInput Restart) so down = down
 restart_lacks n s (OwnInput x) so down = absurd (cc)
@@ -69,7 +69,7 @@ same_servers (x ∷ xs) = (record { raft = record { me = refl; size = refl; base
 set_same_server : (xs : List ServerView) (i : ℕ) (x y : ServerView) → slice_get xs i ≡ Some x → SameServer x y → AllZip SameServer xs (slice_set xs i y)
 set_same_server xs i x y here same = subst (λ l. AllZip SameServer l (slice_set xs i y)) (set_same xs i x here) (zip_set SameServer xs xs i x y (same_servers xs) same)
 
-servers_on : (xs ys : List ServerView) (ss : List Server) → AllZip SameServer xs ys → AllZip IsServer xs ss → AllZip IsServer ys ss
+servers_on : (xs ys : List ServerView) (ss : List Server) → AllZip SameServer xs ys → AllZip RefinesServer xs ss → AllZip RefinesServer ys ss
 servers_on [] [] ss same r = r
 servers_on [] (y ∷ ys) ss same r = absurd same
 servers_on (x ∷ xs) [] ss same r = absurd same
@@ -89,11 +89,11 @@ module _ (old new : GroupView) (same : SameView old new) where
   pub same_group_nodes : nodes_of new ≡ nodes_of old
   same_group_nodes = ap (λ l. map node_in l) same.clients
 
-  pub same_group_represents : (w : World) → RepresentsGroup old w → RepresentsGroup new w
-  same_group_represents w st = record {
+  pub same_group_refines : (w : World) → RefinesGroup old w → RefinesGroup new w
+  same_group_refines w st = record {
     servers = servers_on old.servers new.servers w.servers same.servers st.servers;
     clients = ap (λ l. map client_in l) same.clients ∙ st.clients;
-    sent = subst (λ (o : Outbox). AllZip (CarriesGroup cluster_meaning) o.frames w.sent) (sym same.outbox) st.sent;
+    sent = subst (λ (o : Outbox). AllZip (CarriesGroup cluster_spec) o.frames w.sent) (sym same.outbox) st.sent;
   }
 
   pub same_group_runs : (past : List World) (w : World) → GroupRunsTo old past w → GroupRunsTo new past w
@@ -102,7 +102,7 @@ module _ (old new : GroupView) (same : SameView old new) where
         subst (λ n. LimitedRun n (nodes_of new) new.trace past w) (sym same_group_count)
         (subst (λ nodes. LimitedRun (length old.servers) nodes new.trace past w) (sym same_group_nodes)
         (subst (λ es. LimitedRun (length old.servers) (nodes_of old) es past w) (sym same.trace) r.run));
-    represents = same_group_represents w r.represents;
+    refines = same_group_refines w r.refines;
     chain = subst (λ c. IsGreatestCommit (logs past) (raft_of w) c) (sym same.chain) r.chain;
   }
 
@@ -119,7 +119,7 @@ module _ (old new : GroupView) (same : SameView old new) where
       let n = know i a (subst (λ l. slice_get l i ≡ Some a) same.clients at) in
       (n.0, n.1 ∙ sym same_group_count)
 
-  pub same_group_reached : IsGroupWorld old → IsGroupWorld new
+  pub same_group_reached : GroupInvariant old → GroupInvariant new
   same_group_reached r = record {
     past = r.past;
     world = r.world;
@@ -131,7 +131,7 @@ module _ (old new : GroupView) (same : SameView old new) where
   }
 
 -- what a value that was reached goes to is reached
-pub group_reached_on : (old new : GroupView) (e : Event) → GroupEventHappened old e new → ServersKnowNumbers new → ClientsKnowNumbers new → IsGroupWorld old → IsGroupWorld new
+pub group_reached_on : (old new : GroupView) (e : Event) → GroupEventHappened old e new → ServersKnowNumbers new → ClientsKnowNumbers new → GroupInvariant old → GroupInvariant new
 group_reached_on old new e g servers clients r =
     let q = g.runs r.past r.world r.runs in
     record {
@@ -148,12 +148,12 @@ group_reached_on old new e g servers clients r =
 
 crash_turn : (n i : ℕ) (s : Server) → is_up s.raft.mode ≡ true → step n i s Crash ≡ Ok (record { server = crashed_server s; sent = []; work = [] })
 crash_turn n i s up =
-    let crash : log_step cluster_meaning n i s.raft LogCrash ≡ Ok (silent (crashed s.raft)) = rw up refl in
+    let crash : log_step cluster_spec n i s.raft LogCrash ≡ Ok (silent (crashed s.raft)) = rw up refl in
     ap (λ b. turn_of n i s (if b then acts n i s Crash else wakes s Crash)) up ∙ ap (λ r. logged s (asks AskCrash s.desk) r) crash
 
 -- server i, which has this view, takes the event, and has the view `after` then
 module _ (old new : GroupView) (e : Event) (i : ℕ) (view after : ServerView)
-    (reached : IsGroupWorld old) (here : slice_get old.servers i ≡ Some view)
+    (reached : GroupInvariant old) (here : slice_get old.servers i ≡ Some view)
     (servers : new.servers ≡ slice_set old.servers i after) (clients : new.clients ≡ old.clients) where
   -- the turn that the event is in this world
   record ServerMoved (w : World) : Type 0 where
@@ -161,8 +161,8 @@ module _ (old new : GroupView) (e : Event) (i : ℕ) (view after : ServerView)
     turn : ServerTurn
     at : slice_get w.servers i ≡ Some before
     happens : happens w e ≡ after_turn w i (Ok turn)
-    server : IsServer after turn.server
-    sent : SendsGroup cluster_meaning old.outbox.frames new.outbox.frames turn.sent
+    server : RefinesServer after turn.server
+    sent : SendsGroup cluster_spec old.outbox.frames new.outbox.frames turn.sent
     work : new.outbox.work ≡ old.outbox.work ++ work_of w e
 
   count_kept : length new.servers ≡ length old.servers
@@ -174,14 +174,14 @@ module _ (old new : GroupView) (e : Event) (i : ℕ) (view after : ServerView)
   abbrev next_of : World → ServerTurn → World
   next_of w turn = record w { servers = slice_set w.servers i turn.server; sent = w.sent ++ turn.sent }
 
-  moved_represents : (w : World) → RepresentsGroup old w → (m : ServerMoved w) → RepresentsGroup new (next_of w m.turn)
-  moved_represents w st m =
+  moved_refines : (w : World) → RefinesGroup old w → (m : ServerMoved w) → RefinesGroup new (next_of w m.turn)
+  moved_refines w st m =
       let turn = m.turn in
       let sent = m.sent in
       record {
-        servers = subst (λ l. AllZip IsServer l (slice_set w.servers i turn.server)) (sym servers) (zip_set IsServer old.servers w.servers i after turn.server st.servers m.server);
+        servers = subst (λ l. AllZip RefinesServer l (slice_set w.servers i turn.server)) (sym servers) (zip_set RefinesServer old.servers w.servers i after turn.server st.servers m.server);
         clients = ap (λ l. map client_in l) clients ∙ st.clients;
-        sent = subst (λ l. AllZip (CarriesGroup cluster_meaning) l (w.sent ++ turn.sent)) (sym sent.added) (zip_append (CarriesGroup cluster_meaning) old.outbox.frames w.sent sent.frames turn.sent st.sent sent.carry);
+        sent = subst (λ l. AllZip (CarriesGroup cluster_spec) l (w.sent ++ turn.sent)) (sym sent.added) (zip_append (CarriesGroup cluster_spec) old.outbox.frames w.sent sent.frames turn.sent st.sent sent.carry);
       }
 
   moved_runs : EventFits e → new.trace ≡ old.trace ++ e ∷ [] → (past : List World) (w : World) → (r : GroupRunsTo old past w) → (m : ServerMoved w) →
@@ -196,19 +196,19 @@ module _ (old new : GroupView) (e : Event) (i : ℕ) (view after : ServerView)
             subst (λ n. LimitedRun n (nodes_of new) new.trace (past ++ w ∷ []) next) (sym count_kept)
             (subst (λ nodes. LimitedRun (length old.servers) nodes new.trace (past ++ w ∷ []) next) (sym nodes_kept)
             (subst (λ es. LimitedRun (length old.servers) (nodes_of old) es (past ++ w ∷ []) next) (sym trace) run));
-        represents = moved_represents w r.represents m;
+        refines = moved_refines w r.refines m;
         chain = subst (λ c. IsGreatestCommit (logs (past ++ w ∷ [])) (raft_of next) c) (sym chain) height;
       }
 
-  moved_on : EventFits e → new.trace ≡ old.trace ++ e ∷ [] → (move : (w : World) → RepresentsGroup old w → ServerMoved w) →
-      ((w : World) (st : RepresentsGroup old w) → let m = move w st in let turn = m.turn in new.chain ≡ max old.chain (committed turn.server.raft)) → GroupEventHappened old e new
+  moved_on : EventFits e → new.trace ≡ old.trace ++ e ∷ [] → (move : (w : World) → RefinesGroup old w → ServerMoved w) →
+      ((w : World) (st : RefinesGroup old w) → let m = move w st in let turn = m.turn in new.chain ≡ max old.chain (committed turn.server.raft)) → GroupEventHappened old e new
   moved_on fits trace move chain = record {
     size = count_kept;
     nodes = nodes_kept;
     trace = trace;
     work = λ w st. let m = move w st in m.work;
-    worlds = λ w st. let m = move w st in (next_of w m.turn, m.happens, moved_represents w st m);
-    runs = λ past w r. let m = move w r.represents in (next_of w m.turn, m.happens, moved_runs fits trace past w r m (chain w r.represents));
+    worlds = λ w st. let m = move w st in (next_of w m.turn, m.happens, moved_refines w st m);
+    runs = λ past w r. let m = move w r.refines in (next_of w m.turn, m.happens, moved_runs fits trace past w r m (chain w r.refines));
   }
 
   know_numbers : (after.raft.me ≡ view.raft.me) × (after.raft.size ≡ view.raft.size) → ServersKnowNumbers new
@@ -224,7 +224,7 @@ module _ (old new : GroupView) (e : Event) (i : ℕ) (view after : ServerView)
       let n = reached.clients j a (subst (λ l. slice_get l j ≡ Some a) clients at) in
       (n.0, n.1 ∙ sym count_kept)
 
-  moved_reached : (after.raft.me ≡ view.raft.me) × (after.raft.size ≡ view.raft.size) → GroupEventHappened old e new → IsGroupWorld new
+  moved_reached : (after.raft.me ≡ view.raft.me) × (after.raft.size ≡ view.raft.size) → GroupEventHappened old e new → GroupInvariant new
   moved_reached same happened = group_reached_on old new e happened (know_numbers same) clients_know_numbers reached
 
 -- ---- what the history says of a server's event
@@ -232,35 +232,35 @@ module _ (old new : GroupView) (e : Event) (i : ℕ) (view after : ServerView)
 module _ (old : GroupView) (e : Event) (i : ℕ) (view : ServerView) (h : Handing) where
   -- the event is that server i, which has this view, is handed h
   pub record ServerScene : Type 0 where
-    pub reached : IsGroupWorld old
+    pub reached : GroupInvariant old
     pub here : slice_get old.servers i ≡ Some view
     pub fits : EventFits e
-    pub takes : (w : World) → RepresentsGroup old w → (s : Server) → slice_get w.servers i ≡ Some s → IsServer view s → ServerTakes view h w e i s
+    pub takes : (w : World) → RefinesGroup old w → (s : Server) → slice_get w.servers i ≡ Some s → RefinesServer view s → ServerTakes view h w e i s
 
   -- the server of the world, and what the event is for it
   record Found (w : World) : Type 0 where
     server : Server
     at : slice_get w.servers i ≡ Some server
-    is : IsServer view server
+    is : RefinesServer view server
     takes : ServerTakes view h w e i server
 
   module _ (scene : ServerScene) where
-    found : (w : World) → RepresentsGroup old w → Found w
+    found : (w : World) → RefinesGroup old w → Found w
     found w st =
-        let s = zip_at IsServer old.servers w.servers i view st.servers scene.here in
+        let s = zip_at RefinesServer old.servers w.servers i view st.servers scene.here in
         record { server = s.0; at = s.1; is = s.2; takes = scene.takes w st s.0 s.1 s.2 }
 
     me_is : view.raft.me ≡ i
     me_is = let r = scene.reached in let n = r.servers i view scene.here in n.0
 
-    size_is : (w : World) → RepresentsGroup old w → view.raft.size ≡ length w.servers
-    size_is w st = let r = scene.reached in let n = r.servers i view scene.here in n.1 ∙ zip_length IsServer old.servers w.servers st.servers
+    size_is : (w : World) → RefinesGroup old w → view.raft.size ≡ length w.servers
+    size_is w st = let r = scene.reached in let n = r.servers i view scene.here in n.1 ∙ zip_length RefinesServer old.servers w.servers st.servers
 
     module _ (awake : IsGroupAwake old e) (new : GroupView) (after : ServerView) (servers : new.servers ≡ slice_set old.servers i after) (clients : new.clients ≡ old.clients)
         (same : (after.raft.me ≡ view.raft.me) × (after.raft.size ≡ view.raft.size)) where
       taken : ServerTook view (history_of old) h e after (history_of new) → GroupActed old e (Ok done.Taken) new
       taken p =
-          let move : (w : World) → RepresentsGroup old w → ServerMoved old new e i view after scene.reached scene.here servers clients w =
+          let move : (w : World) → RefinesGroup old w → ServerMoved old new e i view after scene.reached scene.here servers clients w =
           λ w st.
           let f = found w st in
           let takes = f.takes in
@@ -283,7 +283,7 @@ module _ (old : GroupView) (e : Event) (i : ℕ) (view : ServerView) (h : Handin
       fallen : ServerFell view (history_of old) h e i after (history_of new) → GroupActed old e (Ok done.Crashed) new
       fallen p =
           let crash = AtServer i Crash in
-          let move : (w : World) → RepresentsGroup old w → ServerMoved old new crash i view after scene.reached scene.here servers clients w =
+          let move : (w : World) → RefinesGroup old w → ServerMoved old new crash i view after scene.reached scene.here servers clients w =
           λ w st.
           let f = found w st in
           let l = p.crashed.fell f.server f.is in
@@ -299,11 +299,11 @@ module _ (old : GroupView) (e : Event) (i : ℕ) (view : ServerView) (h : Handin
             work = ap (λ (o : Outbox). o.work) p.outbox ∙ sym (ap (λ l. old.outbox.work ++ l) (ap (λ o. input_work w i Crash o) f.at ∙ ap turn_work stepped) ∙ append-nil old.outbox.work);
           } in
           let happened = moved_on old new crash i view after scene.reached scene.here servers clients tt p.trace move (λ w st. omega (arith, p.chain)) in
-          let lacking : (w : World) → RepresentsGroup old w → MayWantAt w e =
+          let lacking : (w : World) → RefinesGroup old w → OutOfMemoryMayEndAt w e =
           λ w st.
           let f = found w st in
           let takes = f.takes in
-          takes.wants (subst (λ n. MayLackMemory n f.server h) (size_is w st) (p.lacks f.server f.is)) in
+          takes.wants (subst (λ n. MayEndOutOfMemory n f.server h) (size_is w st) (p.lacks f.server f.is)) in
           record {
             stepped = record {
               ok = inl (record { crash = crash; actor = λ w st. let f = found w st in let takes = f.takes in takes.crash; lacking = lacking; happened = happened });
@@ -340,7 +340,7 @@ module _ (old : GroupView) (e : Event) (i : ℕ) (view : ServerView) (h : Handin
       stays p past =
           let is : new ≡ old = as_it_was p.same past in
           let runs = scene.reached.runs in
-          let first = found scene.reached.world runs.represents in
+          let first = found scene.reached.world runs.refines in
           let restart = first.takes.restart p.restart in
           record {
             stepped = record {
@@ -359,21 +359,21 @@ module _ (old : GroupView) (e : Event) (i : ℕ) (view : ServerView) (h : Handin
               cause = tt;
               memory = tt;
             };
-            world = subst (λ x. IsGroupWorld x) (sym is) scene.reached;
+            world = subst (λ x. GroupInvariant x) (sym is) scene.reached;
           }
 
       module _ (limits : LimitsAreKept) (senders : SendersAreMembers) where
         -- all that was sent came from the group
         in_group : (past : List World) (w : World) → GroupRunsTo old past w → SendersIn (length w.servers) w
         in_group past w r =
-            let st = r.represents in
+            let st = r.refines in
             let run : Run (length old.servers) (nodes_of old) old.trace past w = limits (length old.servers) (nodes_of old) old.trace past w scene.reached.nodes r.run in
-            subst (λ n. SendersIn n w) (zip_length IsServer old.servers w.servers st.servers) (senders (length old.servers) (nodes_of old) old.trace past w run)
+            subst (λ n. SendersIn n w) (zip_length RefinesServer old.servers w.servers st.servers) (senders (length old.servers) (nodes_of old) old.trace past w run)
 
         -- a server refuses what the definitions refuse
         refuses : (r : Refusal) → ServerRefuses view h r → RefusesGroupEvent old e r
         refuses r says past w run =
-            let st = run.represents in
+            let st = run.refines in
             let f = found w st in
             let takes = f.takes in
             let here : handing_refusal (length w.servers) i f.server h ≡ Some r =
@@ -402,7 +402,7 @@ module _ (old : GroupView) (e : Event) (i : ℕ) (view : ServerView) (h : Handin
 -- ---- which events are a server's
 
 -- server i is at place p of the value that was looked at
-module _ (old now : GroupView) (i p : ℕ) (view : ServerView) (same : old ≡ now) (reached : IsGroupWorld old)
+module _ (old now : GroupView) (i p : ℕ) (view : ServerView) (same : old ≡ now) (reached : GroupInvariant old)
     (is : p ≡ i) (inside : i < length now.servers) (got : view ≡ get_or old.servers p view) where
   stands : slice_get old.servers i ≡ Some view
   stands = slice_get_read old.servers _ i view refl (subst (λ (x : GroupView). i < length x.servers) (sym same) inside) (subst (λ k. view ≡ get_or old.servers k view) is got)
@@ -410,8 +410,8 @@ module _ (old now : GroupView) (i p : ℕ) (view : ServerView) (same : old ≡ n
   knows_me : view.raft.me ≡ i
   knows_me = let n = reached.servers i view stands in n.0
 
-  knows_size : (w : World) → RepresentsGroup old w → view.raft.size ≡ length w.servers
-  knows_size w st = let n = reached.servers i view stands in n.1 ∙ zip_length IsServer old.servers w.servers st.servers
+  knows_size : (w : World) → RefinesGroup old w → view.raft.size ≡ length w.servers
+  knows_size w st = let n = reached.servers i view stands in n.1 ∙ zip_length RefinesServer old.servers w.servers st.servers
 
   -- an input of its own
   pub own_scene : (given : ServerInput) → InputFits (server_input (handing given)) → comes_as_frame (handing given) ≡ false → ServerScene old (AtServer i (server_input (handing given))) i view (handing given)
@@ -423,7 +423,7 @@ module _ (old now : GroupView) (i p : ℕ) (view : ServerView) (same : old ≡ n
   }
 
   -- a frame that was sent to it
-  pub sent_scene : ((y : WireMessage State Command) → MessageFits cluster_meaning y → message_at cluster_meaning (message_text cluster_meaning y) ≡ Ok y) →
+  pub sent_scene : ((y : WireMessage State Command) → MessageFits cluster_spec y → message_at cluster_spec (message_text cluster_spec y) ≡ Ok y) →
       (place : ℕ) → IsSentTo now.outbox.frames place (actors.Server i) → ServerScene old (Deliver place) i view (FrameBytes (bytes_of (slice_get old.outbox.frames place)))
   sent_scene again place sent = record {
     reached = reached;

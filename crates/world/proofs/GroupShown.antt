@@ -14,7 +14,7 @@ use Rattle.spec.specs.Visible.{Visible, Behavior}
 use Rattle.spec.specs.Refinement.{started_by, state_shown, visible_in, ShowsSpec}
 use Rattle.world.specs.declared.done.Done.{Done}
 use Rattle.world.specs.declared.done.Done.TheVariants.{Taken, Crashed}
-use Rattle.world.specs.GroupView.{GroupView, GroupRunsTo, IsGroupWorld, nodes_of, node_in, client_in}
+use Rattle.world.specs.GroupView.{GroupView, GroupRunsTo, GroupInvariant, nodes_of, node_in, client_in}
 use Rattle.world.specs.GroupSteps.{GroupEventHappened, IsGroupDone, SameView, IsNewGroup}
 use Rattle.world.specs.GroupClaims.{OneGroupList, state_of}
 use Rattle.world.specs.GroupShown.{HasShown, ShownSoFar, ShownAfter, OfTheLast, seen_state, started_in, CarryDeliveries, ShownBySpec}
@@ -108,7 +108,7 @@ module _ (view : GroupView) (past : List World) (w : World) (runs : GroupRunsTo 
 
   pub last_started : now.started ≡ map started_in view.clients
   last_started =
-      let st = runs.represents in
+      let st = runs.refines in
       ap (λ (v : Visible). v.started) last_is ∙ (ap (map started_by) (sym st.clients) ∙ mapped view.clients)
     where
       mapped : (clients : List AgentView) → map started_by (map client_in clients) ≡ map started_in clients
@@ -116,7 +116,7 @@ module _ (view : GroupView) (past : List World) (w : World) (runs : GroupRunsTo 
       mapped (c ∷ clients) = ap (λ l. started_in c ∷ l) (mapped clients)
 
   pub last_delivered : CarryDeliveries view.outbox.frames now
-  last_delivered = let st = runs.represents in record {
+  last_delivered = let st = runs.refines in record {
     messages = w.sent;
     carried = st.sent;
     delivered = ap (λ (v : Visible). v.delivered) last_is;
@@ -124,7 +124,7 @@ module _ (view : GroupView) (past : List World) (w : World) (runs : GroupRunsTo 
 
 -- ---- all that was shown
 
-pub shown_so_far : (view : GroupView) → IsGroupWorld view → ShownSoFar view
+pub shown_so_far : (view : GroupView) → GroupInvariant view → ShownSoFar view
 shown_so_far view r =
     let q = r.runs in
     let moments = run_length (length view.servers) (nodes_of view) view.trace r.past r.world q.run in
@@ -134,7 +134,7 @@ shown_so_far view r =
       map_length visible_in (r.past ++ r.world ∷ []) ∙ omega (arith, moments, all),
     )
 
-pub shown_by_spec : (view : GroupView) → IsGroupWorld view → LimitsAreKept → EachRun (λ n nodes events past w. ShowsSpec n nodes past w) → ShownBySpec view
+pub shown_by_spec : (view : GroupView) → GroupInvariant view → LimitsAreKept → EachRun (λ n nodes events past w. ShowsSpec n nodes past w) → ShownBySpec view
 shown_by_spec view r limits spec shown h =
     let run = limits (length view.servers) (nodes_of view) view.trace h.past h.world r.nodes h.run in
     let s = spec (length view.servers) (nodes_of view) view.trace h.past h.world run in
@@ -142,10 +142,10 @@ shown_by_spec view r limits spec shown h =
     let n = length view.servers in
     (s.0, subst (λ l. Behavior n (length view.clients) l s.0) (sym h.is) (subst (λ c. Behavior n c (map visible_in (h.past ++ h.world ∷ [])) s.0) count s.1))
 
-pub clients_shown : (view : GroupView) → IsGroupWorld view → OfTheLast view (λ now. now.started ≡ map started_in view.clients)
+pub clients_shown : (view : GroupView) → GroupInvariant view → OfTheLast view (λ now. now.started ≡ map started_in view.clients)
 clients_shown view r shown now h = last_started view r.past r.world r.runs shown now h
 
-pub sent_shown : (view : GroupView) → IsGroupWorld view → OfTheLast view (λ now. CarryDeliveries view.outbox.frames now)
+pub sent_shown : (view : GroupView) → GroupInvariant view → OfTheLast view (λ now. CarryDeliveries view.outbox.frames now)
 sent_shown view r shown now h = last_delivered view r.past r.world r.runs shown now h
 
 pub step_shown : (old new : GroupView) (e : Event) (result : Result Done Refusal) → IfOk result (λ done. IsGroupDone old e done new) → OnErr result (SameView old new) → OneGroupList new →

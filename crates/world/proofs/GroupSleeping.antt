@@ -13,14 +13,14 @@ use Rattle.raft_model.specs.Steps as raft_steps
 use Rattle.raft_safety.proofs.Places.{get-within}
 use Rattle.raft_core.specs.Steps.{role_of}
 use Rattle.raft_core.specs.declared.role.Role.{Role}
-use Rattle.cluster_model.specs.Words.{State, node_of, is_draining}
-use Rattle.cluster_model.specs.ClusterMachine.{cluster_meaning}
-use Rattle.cluster_model.proofs.ClusterMachine.{cluster_lawful}
+use Rattle.fsm_model.specs.Words.{State, node_of, is_draining}
+use Rattle.fsm_model.specs.ClusterMachine.{cluster_spec}
+use Rattle.fsm_model.proofs.ClusterMachine.{cluster_lawful}
 use Rattle.group_model.specs.Messages.{GroupMessage, OfLog, Service, ServiceMessage, BetweenServers, ToServer, ToClient, ClientResponse}
 use Rattle.group_model.specs.Drains.{is_done, next_moves_of}
 use Rattle.group_model.specs.Brokers.{is_outstanding}
-use Rattle.group_model.specs.Expiry.{BeatCount, beat_count_of}
-use Rattle.group_model.specs.Desks.{Desk, applied_state, whole_state}
+use Rattle.group_model.specs.Expiry.{HeartbeatCount, heartbeat_count_of}
+use Rattle.group_model.specs.Desks.{Desk, applied_state, projected_state}
 use Rattle.group_model.specs.Inputs.{Input, Arrives, Timeout, Beat, Request, TakeFrom, SubmitTo, FinishAt, NackAt, PlanTurn, Lapse, Expire, DrainTurn, FreeTurn, Reap, Compact, Crash, Restart, Act, Ask, rests, input_of}
 use Rattle.group_model.specs.DeskTurns.{expiry_command, expire_of, drains_by, drain_turn_of}
 use Rattle.group_model.specs.Servers.{Server, ServerTurn, open_or, open_desk, at_desk, takes_message, acts, logged, asks_log, done, step}
@@ -31,13 +31,13 @@ use Rattle.group_frames.specs.GroupFrames.{CarriesGroup, receiver_of}
 use Rattle.group_inputs.specs.declared.client_input.ClientInput.{ClientInput}
 use Rattle.group_inputs.specs.declared.client_input.ClientInput.TheVariants as client_inputs
 use Rattle.client_agent.specs.AgentView.{AgentView}
-use Rattle.server.specs.ServerViews.{ServerView, IsServer}
+use Rattle.server.specs.ServerViews.{ServerView, RefinesServer}
 use Rattle.group_inputs.specs.declared.server_input.ServerInput.{ServerInput}
 use Rattle.group_inputs.specs.declared.server_input.ServerInput.TheVariants as inputs
 use Rattle.group_inputs.specs.Handings.{Handing, FrameBytes, OwnInput, handing}
 use Rattle.server.specs.Steps.{takes_in}
 use Rattle.group_inputs.specs.Events.{server_input, client_input}
-use Rattle.world.specs.GroupView.{GroupView, RepresentsGroup, IsSentTo, client_in, client_view}
+use Rattle.world.specs.GroupView.{GroupView, RefinesGroup, IsSentTo, client_in, client_view}
 use Rattle.world.specs.GroupSteps.{RefusesGroupEvent, IsNoArrival, IsGroupAwake}
 use Rattle.actor.specs.Handed.{comes_as_frame, restarts_server, is_client_frame, restarts_client}
 use Rattle.world.specs.Inner.GroupParts.{GroupStepped}
@@ -67,7 +67,7 @@ desk_awake : (q : Result Desk Refusal) (turn : Desk → Result Act Refusal) → 
 desk_awake (Ok d) turn f g = g d
 desk_awake (Err r) turn f g = f
 
-expire_awake : (d : Desk) (command : Command) (beats : ℕ) (o : Option BeatCount) → Awake (expire_of d command beats o)
+expire_awake : (d : Desk) (command : Command) (beats : ℕ) (o : Option HeartbeatCount) → Awake (expire_of d command beats o)
 expire_awake d command beats None = λ e. cc
 expire_awake d command beats (Some c) = awake_if (nat_eq c.beats beats) _ _ tt (λ e. cc)
 
@@ -102,8 +102,8 @@ module _ (n me : ℕ) (s : Server) where
   acts_awake (NackAt to eval token) = awake_if (nat_lt to n) _ _ tt (λ e. cc)
   acts_awake PlanTurn = desk_awake (open_desk s) _ desk (λ d. tt)
   acts_awake (Lapse eval) = desk_awake (open_desk s) _ desk (λ d. awake_if (is_outstanding eval d.broker) _ _ tt (λ e. cc))
-  acts_awake (Expire node beats) = desk_awake (open_desk s) _ desk (λ d. expire_awake d (expiry_command (applied_state s.raft) node) beats (beat_count_of node d.beat_counts))
-  acts_awake (DrainTurn node) = desk_awake (open_desk s) _ desk (λ d. drain_awake d (whole_state s.raft) (node_of node (whole_state s.raft)))
+  acts_awake (Expire node beats) = desk_awake (open_desk s) _ desk (λ d. expire_awake d (expiry_command (applied_state s.raft) node) beats (heartbeat_count_of node d.heartbeat_counts))
+  acts_awake (DrainTurn node) = desk_awake (open_desk s) _ desk (λ d. drain_awake d (projected_state s.raft) (node_of node (projected_state s.raft)))
   acts_awake FreeTurn = desk_awake (open_desk s) _ desk (λ d. tt)
   acts_awake Reap = desk_awake (open_desk s) _ desk (λ d. tt)
   acts_awake Compact = tt
@@ -111,8 +111,8 @@ module _ (n me : ℕ) (s : Server) where
   acts_awake Restart = λ e. cc
 
   module _ (up : is_up s.raft.mode ≡ true) where
-    log_awake : (x : raft_steps.Input Command) → Awake (raft_steps.step cluster_meaning n me s.raft x)
-    log_awake x = up_awake cluster_meaning cluster_lawful n me s.raft x up
+    log_awake : (x : raft_steps.Input Command) → Awake (raft_steps.step cluster_spec n me s.raft x)
+    log_awake x = up_awake cluster_spec cluster_lawful n me s.raft x up
 
     asks_awake : (act : Act) (ask : Option Ask) → Awake (asks_log n me s act ask)
     asks_awake act None = tt
@@ -177,17 +177,17 @@ no_arrival i given other = tt
 
 module _ (view : GroupView) (i : ℕ) where
   pub server_absent : (h : Handing) → slice_get view.servers i ≡ None → RefusesGroupEvent view (AtServer i (server_input h)) refusals.OutOfRange
-  server_absent h gone past w r = let st = r.represents in absent_takes w i (server_input h) (zip_none IsServer view.servers w.servers i st.servers gone)
+  server_absent h gone past w r = let st = r.refines in absent_takes w i (server_input h) (zip_none RefinesServer view.servers w.servers i st.servers gone)
 
-  module _ (here : ServerView) (role : Option Role) (at : slice_get view.servers i ≡ Some here) (says : (s : Server) → IsServer here s → role ≡ role_of s.raft.mode) where
+  module _ (here : ServerView) (role : Option Role) (at : slice_get view.servers i ≡ Some here) (says : (s : Server) → RefinesServer here s → role ≡ role_of s.raft.mode) where
     pub server_sleeps : (h : Handing) → is_some role ≡ false → restarts_server h ≡ false → RefusesGroupEvent view (AtServer i (server_input h)) refusals.Down
     server_sleeps h none other past w r =
-        let st = r.represents in
-        let s = zip_at IsServer view.servers w.servers i here st.servers at in
+        let st = r.refines in
+        let s = zip_at RefinesServer view.servers w.servers i here st.servers at in
         sleeping w i s.0 s.1 h (asleep s.0.raft.mode (ap is_some (sym (says s.0 s.2)) ∙ none)) other
 
     -- what the role says of a server of the definitions
-    up_or : (h : Handing) (s : Server) → IsServer here s → (is_some role ≡ true) ⊎ (restarts_server h ≡ true) → (is_up s.raft.mode ≡ true) ⊎ (restarts_server h ≡ true)
+    up_or : (h : Handing) (s : Server) → RefinesServer here s → (is_some role ≡ true) ⊎ (restarts_server h ≡ true) → (is_up s.raft.mode ≡ true) ⊎ (restarts_server h ≡ true)
     up_or h s is (inl some) = inl (awake_role s.raft.mode (ap is_some (sym (says s is)) ∙ some))
     up_or h s is (inr so) = inr so
 
@@ -198,16 +198,16 @@ module _ (view : GroupView) (i : ℕ) where
 
     pub frame_is_none : (h : Handing) → comes_as_frame h ≡ true → (is_some role ≡ true) ⊎ (restarts_server h ≡ true) → RefusesGroupEvent view (AtServer i (server_input h)) refusals.OutOfRange
     frame_is_none h frame up past w r =
-        let st = r.represents in
-        let s = zip_at IsServer view.servers w.servers i here st.servers at in
+        let st = r.refines in
+        let s = zip_at RefinesServer view.servers w.servers i here st.servers at in
         is_no_frame w s.0 s.1 h frame (up_or h s.0 s.2 up)
 
     -- a server that is up does not refuse for being down, nor does one that is to restart
     pub server_awake : (given : ServerInput) → comes_as_frame (handing given) ≡ false → (is_some role ≡ true) ⊎ (restarts_server (handing given) ≡ true) → IsGroupAwake view (AtServer i (server_input (handing given)))
     server_awake given other up past w r =
         let h = handing given in
-        let st = r.represents in
-        let s = zip_at IsServer view.servers w.servers i here st.servers at in
+        let st = r.refines in
+        let s = zip_at RefinesServer view.servers w.servers i here st.servers at in
         record {
           crash = AtServer i Crash;
           actor = refl;
@@ -227,7 +227,7 @@ client_within cs zero a at = absurd (cc)
 client_within cs (suc k) a at = let inside : k < length cs = get-within cs k a at in omega arith
 
 -- the client of the definitions at the place of one of the value
-client_of_view : (view : GroupView) (w : World) (c : ℕ) → RepresentsGroup view w → client_at w.clients c ≡ option_map client_in (client_view view.clients c)
+client_of_view : (view : GroupView) (w : World) (c : ℕ) → RefinesGroup view w → client_at w.clients c ≡ option_map client_in (client_view view.clients c)
 client_of_view view w c st = subst (λ cs. client_at cs c ≡ option_map client_in (client_view view.clients c)) st.clients (clients_match view.clients c)
 
 absent_client_takes : (w : World) (c : ℕ) (x : agents.Input) → client_at w.clients c ≡ None → own_client_input w c x ≡ Err refusals.OutOfRange
@@ -277,25 +277,25 @@ client_has cs (suc k) x at = let inside : k < length cs = get-within cs k x at i
 
 module _ (view : GroupView) (c : ℕ) where
   pub client_absent : (given : ClientInput) → client_view view.clients c ≡ None → RefusesGroupEvent view (AtClient c (client_input given)) refusals.OutOfRange
-  client_absent given gone past w r = absent_client_takes w c (client_input given) (client_of_view view w c r.represents ∙ ap (λ o. option_map client_in o) gone)
+  client_absent given gone past w r = absent_client_takes w c (client_input given) (client_of_view view w c r.refines ∙ ap (λ o. option_map client_in o) gone)
 
   module _ (here : AgentView) (at : client_view view.clients c ≡ Some here) where
-    client_there : (w : World) → RepresentsGroup view w → client_at w.clients c ≡ Some here.client
+    client_there : (w : World) → RefinesGroup view w → client_at w.clients c ≡ Some here.client
     client_there w st = client_of_view view w c st ∙ ap (λ o. option_map client_in o) at
 
     pub client_sleeps : (given : ClientInput) → is_some here.client.life ≡ false → restarts_client given ≡ false → RefusesGroupEvent view (AtClient c (client_input given)) refusals.Down
-    client_sleeps given down other past w r = client_sleeping w c here.client (client_there w r.represents) given down other
+    client_sleeps given down other past w r = client_sleeping w c here.client (client_there w r.refines) given down other
 
     pub response_is_none : (given : ClientInput) → is_client_frame given ≡ true → (is_some here.client.life ≡ true) ⊎ (restarts_client given ≡ true) → RefusesGroupEvent view (AtClient c (client_input given)) refusals.OutOfRange
-    response_is_none given frame up past w r = no_own_response w c here.client (client_there w r.represents) given frame up
+    response_is_none given frame up past w r = no_own_response w c here.client (client_there w r.refines) given frame up
 
     pub client_awake : (given : ClientInput) → is_client_frame given ≡ false → (is_some here.client.life ≡ true) ⊎ (restarts_client given ≡ true) → IsGroupAwake view (AtClient c (client_input given))
     client_awake given other up past w r = record {
       crash = AtClient c agents.Crash;
       actor = refl;
-      there = client_has w.clients c here.client (client_there w r.represents);
+      there = client_has w.clients c here.client (client_there w r.refines);
       own = no_response c given other;
-      awake = awake_is (own_client_input w c (client_input given)) (own_client_awake w c here.client (client_there w r.represents) given other up);
+      awake = awake_is (own_client_input w c (client_input given)) (own_client_awake w c here.client (client_there w r.refines) given other up);
     }
 
 -- ---- what comes
@@ -303,8 +303,8 @@ module _ (view : GroupView) (c : ℕ) where
 -- there is no such message
 pub nothing_comes : (view : GroupView) (place : ℕ) → slice_get view.outbox.frames place ≡ None → RefusesGroupEvent view (Deliver place) refusals.OutOfRange
 nothing_comes view place gone past w r =
-    let st = r.represents in
-    ap (λ o. delivers w o) (zip_none (CarriesGroup cluster_meaning) view.outbox.frames w.sent place st.sent gone)
+    let st = r.refines in
+    ap (λ o. delivers w o) (zip_none (CarriesGroup cluster_spec) view.outbox.frames w.sent place st.sent gone)
 
 lost : (w : World) (i : ℕ) (x : GroupMessage) → receiver_of x ≡ actors.Server i → slice_get w.servers i ≡ None → delivers_message w x ≡ Err refusals.OutOfRange
 lost w i (OfLog message) to gone = ap (λ k. message_to w k message (slice_get w.servers k)) (same_server to) ∙ ap (λ o. message_to w i message o) gone
@@ -317,29 +317,29 @@ lost w i (Service (ToServer client j request)) to gone =
 lost w i (Service (ToClient j client response)) to gone = absurd (cc to)
 
 module _ (view : GroupView) (place i : ℕ) (sent : IsSentTo view.outbox.frames place (actors.Server i)) where
-  message : (w : World) → RepresentsGroup view w → Comes view.outbox.frames place w (actors.Server i)
+  message : (w : World) → RefinesGroup view w → Comes view.outbox.frames place w (actors.Server i)
   message w st = comes view.outbox.frames place w (actors.Server i) st.sent sent
 
   pub receiver_absent : slice_get view.servers i ≡ None → RefusesGroupEvent view (Deliver place) refusals.OutOfRange
   receiver_absent gone past w r =
-      let st = r.represents in
+      let st = r.refines in
       let m = message w st in
-      ap (λ o. delivers w o) m.at ∙ lost w i m.message m.is_to (zip_none IsServer view.servers w.servers i st.servers gone)
+      ap (λ o. delivers w o) m.at ∙ lost w i m.message m.is_to (zip_none RefinesServer view.servers w.servers i st.servers gone)
 
-  module _ (here : ServerView) (role : Option Role) (at : slice_get view.servers i ≡ Some here) (says : (s : Server) → IsServer here s → role ≡ role_of s.raft.mode) where
+  module _ (here : ServerView) (role : Option Role) (at : slice_get view.servers i ≡ Some here) (says : (s : Server) → RefinesServer here s → role ≡ role_of s.raft.mode) where
     pub receiver_sleeps : is_some role ≡ false → RefusesGroupEvent view (Deliver place) refusals.Down
     receiver_sleeps none past w r =
-        let st = r.represents in
+        let st = r.refines in
         let m = message w st in
-        let s = zip_at IsServer view.servers w.servers i here st.servers at in
+        let s = zip_at RefinesServer view.servers w.servers i here st.servers at in
         let f = is_for w i s.0 s.1 m.message m.is_to in
         ap (λ o. delivers w o) m.at ∙ f.happens ∙ ap (λ q. after_turn w i q) (down_takes (length w.servers) i s.0 m.message (asleep s.0.raft.mode (ap is_some (sym (says s.0 s.2)) ∙ none)))
 
     pub receiver_awake : is_some role ≡ true → IsGroupAwake view (Deliver place)
     receiver_awake some past w r =
-        let st = r.represents in
+        let st = r.refines in
         let m = message w st in
-        let s = zip_at IsServer view.servers w.servers i here st.servers at in
+        let s = zip_at RefinesServer view.servers w.servers i here st.servers at in
         let f = is_for w i s.0 s.1 m.message m.is_to in
         let up : is_up s.0.raft.mode ≡ true = awake_role s.0.raft.mode (ap is_some (sym (says s.0 s.2)) ∙ some) in
         record {
@@ -359,7 +359,7 @@ module _ (view : GroupView) (place c : ℕ) (sent : IsSentTo view.outbox.frames 
     is : happens w (Deliver place) ≡ client_takes w c (agents.Arrives from response)
     crash : crash_of_message (slice_get w.sent place) ≡ Some (AtClient c agents.Crash)
 
-  responds : (w : World) → RepresentsGroup view w → Responds w
+  responds : (w : World) → RefinesGroup view w → Responds w
   responds w st =
       let m = comes view.outbox.frames place w (actors.Client c) st.sent sent in
       let q = for_client m.message c m.is_to in
@@ -368,12 +368,12 @@ module _ (view : GroupView) (place c : ℕ) (sent : IsSentTo view.outbox.frames 
 
   pub client_receiver_absent : client_view view.clients c ≡ None → RefusesGroupEvent view (Deliver place) refusals.OutOfRange
   client_receiver_absent gone past w r =
-      let m = responds w r.represents in
+      let m = responds w r.refines in
       let input : agents.Input = agents.Arrives m.from m.response in
-      m.is ∙ ap (λ o. client_input_to w c input o) (client_of_view view w c r.represents ∙ ap (λ o. option_map client_in o) gone)
+      m.is ∙ ap (λ o. client_input_to w c input o) (client_of_view view w c r.refines ∙ ap (λ o. option_map client_in o) gone)
 
   module _ (here : AgentView) (at : client_view view.clients c ≡ Some here) where
-    comes_there : (w : World) (st : RepresentsGroup view w) → let m = responds w st in happens w (Deliver place) ≡ after_client w c (agents.step_of (length w.servers) here.client here.client.life (agents.Arrives m.from m.response))
+    comes_there : (w : World) (st : RefinesGroup view w) → let m = responds w st in happens w (Deliver place) ≡ after_client w c (agents.step_of (length w.servers) here.client here.client.life (agents.Arrives m.from m.response))
     comes_there w st =
         let m = responds w st in
         let input : agents.Input = agents.Arrives m.from m.response in
@@ -381,8 +381,8 @@ module _ (view : GroupView) (place c : ℕ) (sent : IsSentTo view.outbox.frames 
 
     pub client_receiver_sleeps : is_some here.client.life ≡ false → RefusesGroupEvent view (Deliver place) refusals.Down
     client_receiver_sleeps down past w r =
-        let m = responds w r.represents in
-        comes_there w r.represents ∙ ap (λ q. after_client w c q) (down_hears (length w.servers) here.client here.client.life m.from m.response down)
+        let m = responds w r.refines in
+        comes_there w r.refines ∙ ap (λ q. after_client w c q) (down_hears (length w.servers) here.client here.client.life m.from m.response down)
 
     hears_awake : (n : ℕ) (life : Option Life) (from : ℕ) (response : ClientResponse) → is_some life ≡ true → Awake (agents.step_of n here.client life (agents.Arrives from response))
     hears_awake n (Some l) from response up = tt
@@ -390,11 +390,11 @@ module _ (view : GroupView) (place c : ℕ) (sent : IsSentTo view.outbox.frames 
 
     pub client_receiver_awake : is_some here.client.life ≡ true → IsGroupAwake view (Deliver place)
     client_receiver_awake up past w r =
-        let m = responds w r.represents in
+        let m = responds w r.refines in
         record {
           crash = AtClient c agents.Crash;
           actor = m.crash;
-          there = client_has w.clients c here.client (client_there view c here at w r.represents);
+          there = client_has w.clients c here.client (client_there view c here at w r.refines);
           own = tt;
-          awake = awake_is (happens w (Deliver place)) (subst (λ q. Awake q) (sym (comes_there w r.represents)) (after_client_awake w c _ (hears_awake (length w.servers) here.client.life m.from m.response up)));
+          awake = awake_is (happens w (Deliver place)) (subst (λ q. Awake q) (sym (comes_there w r.refines)) (after_client_awake w c _ (hears_awake (length w.servers) here.client.life m.from m.response up)));
         }

@@ -3,7 +3,7 @@ use Rattle.std.proofs.Common.{◌≡◌, ℕ, ◌<◌, ◌≤◌, Option, Some, 
 use Rattle.std.proofs.lemmas.Option.{slice_get_within}
 use Rattle.std.specs.List.{AllByRecursion}
 use Rattle.rows.specs.declared.node.NodeSpec.{NodeSpec}
-use Rattle.cluster_model.specs.ClusterMachine.{cluster_meaning}
+use Rattle.fsm_model.specs.ClusterMachine.{cluster_spec}
 use Rattle.group_model.specs.Messages.{GroupMessage}
 use Rattle.group_model.specs.Inputs as inputs
 use Rattle.group_model.specs.Agents as agents
@@ -11,7 +11,7 @@ use Rattle.group_model.specs.Worlds.{World, Event, Deliver, AtServer, AtClient, 
 use Rattle.group_safety.specs.Limits.{LimitedRun, start, more}
 use Rattle.group_safety.proofs.Showings.{event_goes}
 use Rattle.group_frames.specs.GroupFrames.{CarriesGroup}
-use Rattle.world.specs.GroupView.{GroupView, IsGroupWorld, nodes_of}
+use Rattle.world.specs.GroupView.{GroupView, GroupInvariant, nodes_of}
 use Rattle.world.specs.GroupClaims.{IsTraced}
 use Rattle.world.proofs.Zips.{zip_length}
 
@@ -49,8 +49,8 @@ traced n nodes events past w (more {events = es} {past = before} {w = last} e ne
     let grown : length last.sent ≤ length next.sent = subst (λ (l : List GroupMessage). length last.sent ≤ length l) (sym g.sent) (append_length last.sent g.more) in
     one_more (length last.sent) (length next.sent) es e grown (traced n nodes es before last run) (happened last next e so)
 
-pub group_traced : (view : GroupView) → IsGroupWorld view → AllByRecursion (IsTraced (length view.outbox.frames)) view.trace
+pub group_traced : (view : GroupView) → GroupInvariant view → AllByRecursion (IsTraced (length view.outbox.frames)) view.trace
 group_traced view r =
     let q = r.runs in
-    subst (λ (m : ℕ). AllByRecursion (IsTraced m) view.trace) (sym (zip_length (CarriesGroup cluster_meaning) view.outbox.frames r.world.sent q.represents.sent))
+    subst (λ (m : ℕ). AllByRecursion (IsTraced m) view.trace) (sym (zip_length (CarriesGroup cluster_spec) view.outbox.frames r.world.sent q.refines.sent))
     (traced (length view.servers) (nodes_of view) view.trace r.past r.world q.run)

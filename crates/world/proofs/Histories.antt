@@ -3,7 +3,7 @@ use Rattle.std.proofs.Common.{◌≡◌, ℕ, ◌≤◌, Bool, true, false, Bor,
 use Rattle.std.proofs.lemmas.Option.{same_Some}
 use Rattle.std.proofs.lemmas.List.{length-take-le}
 use Rattle.std.specs.Option.{option_copied}
-use Rattle.machine_model.specs.Meaning.{Meaning, LawfulMachine}
+use Rattle.machine_model.specs.MachineSpec.{MachineSpec, LawfulMachine}
 use Rattle.machine_model.specs.declared.entry.Entry.{Entry}
 use Rattle.machine_model.proofs.Afters.{after-count}
 use Rattle.raft_model.specs.Logs.{commands, state_after}
@@ -11,14 +11,14 @@ use Rattle.raft_model.specs.Rafts.{Raft, is_up}
 use Rattle.raft_model.specs.Worlds.{World}
 use Rattle.raft_model.specs.Chains.{Agree, Chain}
 use Rattle.raft_core.specs.RaftView.{RaftView}
-use Rattle.raft_core.specs.Steps.{Represents}
+use Rattle.raft_core.specs.Steps.{Refines}
 use Rattle.raft_safety.proofs.Places.{get-last}
 use Rattle.raft_safety.proofs.Sound.{commands_length}
 use Rattle.world.specs.WorldView.{WorldView, RunsTo}
 use Rattle.world.specs.Claims.{OneListEver, StatesSafeEver, OneHistory, running_state, machine_of}
 use Rattle.world.proofs.Zips.{zip_at, zip_none}
 
-module _ {S C : Type 0} (m : Meaning S C) where
+module _ {S C : Type 0} (m : MachineSpec S C) where
   -- a server as it is up, or down
   pub running_is : (s : Raft C) (o : Option (Bor S)) → MatchOption o (is_up s.mode ≡ false) (λ r. (is_up s.mode ≡ true) × (r.now ≡ state_after m (take s.commit s.log))) → option_copied o ≡ running_state m (Some s)
   running_is s None down = rw down refl
@@ -26,13 +26,13 @@ module _ {S C : Type 0} (m : Meaning S C) where
 
   module _ (seen : WorldView S C) (i : ℕ) (past : List (World C)) (w : World C) (runs : RunsTo m seen past w) where
     pub no_machine : slice_get seen.servers i ≡ None → None ≡ machine_of m w i
-    no_machine gone = let st = runs.represents in let none : slice_get w.servers i ≡ None = zip_none (Represents m) seen.servers w.servers i st.servers gone in rw none refl
+    no_machine gone = let st = runs.refines in let none : slice_get w.servers i ≡ None = zip_none (Refines m) seen.servers w.servers i st.servers gone in rw none refl
 
     pub machine_is : (h : RaftView S C) (o : Option (Bor S)) → slice_get seen.servers i ≡ Some h →
-        ((s : Raft C) → Represents m h s → MatchOption o (is_up s.mode ≡ false) (λ r. (is_up s.mode ≡ true) × (r.now ≡ state_after m (take s.commit s.log)))) → option_copied o ≡ machine_of m w i
+        ((s : Raft C) → Refines m h s → MatchOption o (is_up s.mode ≡ false) (λ r. (is_up s.mode ≡ true) × (r.now ≡ state_after m (take s.commit s.log)))) → option_copied o ≡ machine_of m w i
     machine_is h o here says =
-        let st = runs.represents in
-        let s = zip_at (Represents m) seen.servers w.servers i h st.servers here in
+        let st = runs.refines in
+        let s = zip_at (Refines m) seen.servers w.servers i h st.servers here in
         let there : slice_get w.servers i ≡ Some s.0 = s.1 in
         rw there (running_is s.0 o (says s.0 s.2))
 

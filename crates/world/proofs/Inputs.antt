@@ -4,7 +4,7 @@ use Rattle.std.proofs.lemmas.Option.{same_Some}
 use Rattle.std.specs.List.{AllZip}
 use Rattle.rows.specs.declared.actor.Actor.TheVariants as actors
 use Rattle.rows.specs.declared.refusal.Refusal.TheVariants as refusals
-use Rattle.machine_model.specs.Meaning.{Meaning}
+use Rattle.machine_model.specs.MachineSpec.{MachineSpec}
 use Rattle.wire.specs.Frames.{Frame}
 use Rattle.raft_model.specs.Messages.{Message}
 use Rattle.raft_model.specs.Rafts.{Raft, Mode, is_up}
@@ -12,14 +12,14 @@ use Rattle.raft_model.specs.Steps.{Input, Arrives, Timeout, Beat, Propose, Compa
 use Rattle.raft_model.specs.Worlds.{World, Event, Deliver, TimesOut, Beats, Proposes, Compacts, Crashes, Restarts, happens, takes, receiver, delivers, acting_server}
 use Rattle.raft_core.specs.Frames.{IsFrameOf, FrameCarries}
 use Rattle.raft_core.specs.Inputs.{Reads}
-use Rattle.raft_core.specs.Refusals.{MayLack, MayWant}
+use Rattle.raft_core.specs.Refusals.{MayEndOutOfMemory, OutOfMemoryMayEnd}
 use Rattle.raft_safety.proofs.Places.{get-within}
 use Rattle.server.specs.SentBytes.{bytes_of}
 use Rattle.world.specs.Events.{arrival, event_input}
 use Rattle.world.specs.Inner.Inputs.{ActsIn, NobodyActsIn, is_restart, handed_by}
 use Rattle.world.proofs.Zips.{zip_at, zip_from, zip_none}
 
-module _ {S C : Type 0} (m : Meaning S C) (sent : List Frame) (k : ℕ) where
+module _ {S C : Type 0} (m : MachineSpec S C) (sent : List Frame) (k : ℕ) where
   pub gone : slice_get sent k ≡ None → NobodyActsIn m sent (Deliver k) refusals.OutOfRange
   gone h w z = let none : slice_get w.sent k ≡ None = zip_none (FrameCarries m) sent w.sent k z h in rw none refl
 
@@ -48,7 +48,7 @@ WasSent w i Compact = Unit {0}
 WasSent w i Crash = Unit {0}
 WasSent w i Restart = Unit {0}
 
-module _ {S C : Type 0} (m : Meaning S C) (sent : List Frame) (w : World C) where
+module _ {S C : Type 0} (m : MachineSpec S C) (sent : List Frame) (w : World C) where
   -- in this world the event is that server i takes this input
   pub record Brings (e : Event C) (i : ℕ) : Type 0 where
     pub input : Input C
@@ -56,7 +56,7 @@ module _ {S C : Type 0} (m : Meaning S C) (sent : List Frame) (w : World C) wher
     pub reads : Reads m (handed_by sent e) input
     pub came : WasSent w i input
     pub takes : happens m w e ≡ takes m w i input
-    pub wants : (mode : Mode) → MayLack mode (handed_by sent e) → MayWant mode input
+    pub wants : (mode : Mode) → MayEndOutOfMemory mode (handed_by sent e) → OutOfMemoryMayEnd mode input
     pub wakes : is_restart e ≡ true → input ≡ Restart
     pub sleeps : is_restart e ≡ false → (n me : ℕ) (s : Raft C) → is_up s.mode ≡ false → step m n me s input ≡ Err refusals.Down
 

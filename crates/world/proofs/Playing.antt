@@ -2,7 +2,7 @@
 use Rattle.std.proofs.Common.{◌≡◌, ◌≢◌, ℕ, inl, inr, Some, Result, Ok, Err, IfOk, IfErr, OnErr, List, [], ◌∷◌, ◌++◌, length, length-append, refl, sym, ap, ◌∙◌, subst, slice_get, arith}
 use Rattle.rows.specs.declared.refusal.Refusal.{Refusal}
 use Rattle.rows.specs.declared.refusal.Refusal.TheVariants as refusals
-use Rattle.machine_model.specs.Meaning.{Meaning}
+use Rattle.machine_model.specs.MachineSpec.{MachineSpec}
 use Rattle.raft_model.specs.Rafts.{Raft}
 use Rattle.raft_model.specs.Worlds.{World, Event, Crashes, Outcome, first, Kept, LeftOut, IsEvent, Run, start, more, acting_server, Trace, nothing, kept, crashed, left_out}
 use Rattle.raft_model.specs.Worlds as model
@@ -10,14 +10,14 @@ use Rattle.world.specs.declared.done.Done.{Done}
 use Rattle.world.specs.declared.done.Done.TheVariants.{Taken, Crashed}
 use Rattle.world.specs.WorldView.{WorldView}
 use Rattle.raft_safety.proofs.Places.{get-more, get-last}
-use Rattle.world.specs.Steps.{WasDone, SameWorld, RefusesEvent, IsNew, MayWantFor, Starved, MayBecome, EachBecame, Played}
+use Rattle.world.specs.Steps.{WasDone, SameWorld, RefusesEvent, IsNew, OutOfMemoryMayEndFor, OutOfMemoryCrash, MayBecome, EachBecame, Played}
 use Rattle.world.proofs.Outcomes.{place_after, place_more, became_more, became_map}
 use Rattle.world.proofs.Begins.{new_runs}
 use Rattle.world.proofs.Same.{same_world, same_count, same_runs}
 
 -- ---- what became of each event
 
-module _ {S C : Type 0} (m : Meaning S C) where
+module _ {S C : Type 0} (m : MachineSpec S C) where
   -- a run has as many worlds before the last one as events
   run_length : (n : ℕ) (events : List (Event C)) (past : List (World C)) (w : World C) → Run m n events past w → length past ≡ length events
   run_length n events past w start = refl
@@ -51,8 +51,8 @@ module _ {S C : Type 0} (m : Meaning S C) where
   became_on trace past w next c handed outcomes all =
       became_map (MayBecome m trace past w) (MayBecome m (trace ++ c ∷ []) (past ++ w ∷ []) next) (λ place e o became. stands_on trace past w next c place e o became) 0 handed outcomes all
 
-  starved_now : (trace : List (Event C)) (past : List (World C)) (w next : World C) (e : Event C) (i place : ℕ) → place ≡ length past → length past ≡ length trace → acting_server m w e ≡ Some i → ((s : Raft C) → slice_get w.servers i ≡ Some s → MayWantFor w e s) →
-      Starved m (trace ++ Crashes i ∷ []) (past ++ w ∷ []) next place e
+  starved_now : (trace : List (Event C)) (past : List (World C)) (w next : World C) (e : Event C) (i place : ℕ) → place ≡ length past → length past ≡ length trace → acting_server m w e ≡ Some i → ((s : Raft C) → slice_get w.servers i ≡ Some s → OutOfMemoryMayEndFor w e s) →
+      OutOfMemoryCrash m (trace ++ Crashes i ∷ []) (past ++ w ∷ []) next place e
   starved_now trace past w next e i place due same is lacking = record {
     before = w;
     who = i;
@@ -64,7 +64,7 @@ module _ {S C : Type 0} (m : Meaning S C) where
 
 -- ---- one event after the other
 
-module _ {S C : Type 0} (m : Meaning S C) (n : ℕ) where
+module _ {S C : Type 0} (m : MachineSpec S C) (n : ℕ) where
   pub play_begins : (seen : WorldView S C) → IsNew m n seen → Played m n [] seen
   play_begins seen begun = record {
     count = begun.count;
@@ -72,7 +72,7 @@ module _ {S C : Type 0} (m : Meaning S C) (n : ℕ) where
     past = [];
     world = first n;
     trace = subst (λ es. Trace m n [] [] es [] (first n)) (sym begun.trace) nothing;
-    runs = new_runs m n seen begun.count begun.trace begun.chain begun.represents;
+    runs = new_runs m n seen begun.count begun.trace begun.chain begun.refines;
     became = tt;
   }
 
@@ -113,13 +113,13 @@ module _ {S C : Type 0} (m : Meaning S C) (n : ℕ) where
           outcomes = p.outcomes ++ model.Crashed ∷ [];
           past = p.past ++ p.world ∷ [];
           world = q.0;
-          trace = subst (λ es. Trace m n (handed ++ e ∷ []) (p.outcomes ++ model.Crashed ∷ []) es (p.past ++ p.world ∷ []) q.0) (sym happened.trace) (crashed e f.who q.0 p.trace (f.actor p.world run.represents) q.1);
+          trace = subst (λ es. Trace m n (handed ++ e ∷ []) (p.outcomes ++ model.Crashed ∷ []) es (p.past ++ p.world ∷ []) q.0) (sym happened.trace) (crashed e f.who q.0 p.trace (f.actor p.world run.refines) q.1);
           runs = q.2;
           became = subst (λ ts. EachBecame (MayBecome m ts (p.past ++ p.world ∷ []) q.0) 0 (handed ++ e ∷ []) (p.outcomes ++ model.Crashed ∷ [])) (sym happened.trace)
               (became_more (MayBecome m (old.trace ++ Crashes f.who ∷ []) (p.past ++ p.world ∷ []) q.0) 0 handed p.outcomes e model.Crashed (became_on m old.trace p.past p.world q.0 (Crashes f.who) handed p.outcomes p.became)
-              (starved_now m old.trace p.past p.world q.0 e f.who (place_after 0 p.outcomes) (place_is m n handed old.trace p.outcomes p.past p.world p.trace) (run_length m (length old.servers) old.trace p.past p.world run.run) (f.actor p.world run.represents) (λ s at. f.lacking p.world s run.represents at)));
+              (starved_now m old.trace p.past p.world q.0 e f.who (place_after 0 p.outcomes) (place_is m n handed old.trace p.outcomes p.past p.world p.trace) (run_length m (length old.servers) old.trace p.past p.world run.run) (f.actor p.world run.refines) (λ s at. f.lacking p.world s run.refines at)));
         }
-    | inr s ↦ let run = p.runs in passed_over handed old new e refusals.NoMemory p (inr (s.restart, s.could p.world run.represents, refl)) (subst (λ x. SameWorld old x) (sym s.same) (same_world old))
+    | inr s ↦ let run = p.runs in passed_over handed old new e refusals.NoMemory p (inr (s.restart, s.could p.world run.refines, refl)) (subst (λ x. SameWorld old x) (sym s.same) (same_world old))
   ]
   play_next handed old new e (Err refusal) is p went err cause memory =
       passed_over handed old new e refusal p (inl (cause (λ r. memory (ap (λ x. Err x) r)) p.past p.world p.runs)) err

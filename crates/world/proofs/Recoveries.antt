@@ -1,6 +1,6 @@
 -- What is proved of all runs of the definitions is so of a value's.
 use Rattle.std.proofs.Common.{ℕ, ◌≤◌, Bool, length, inl, inr, arith}
-use Rattle.machine_model.specs.Meaning.{Meaning}
+use Rattle.machine_model.specs.MachineSpec.{MachineSpec}
 use Rattle.rows.specs.GroupSizes.{IsGroup}
 use Rattle.raft_model.specs.Quorums.{Quorum}
 use Rattle.raft_safety.specs.Claims.{EachRun}
@@ -11,7 +11,7 @@ use Rattle.group_safety.specs.Limits.{LimitsAreKept}
 use Rattle.group_progress.specs.GroupRecovery.{GroupCanSettle, GroupCanRecover}
 use Rattle.world.specs.WorldView.{WorldView, IsRaftWorld}
 use Rattle.world.specs.Claims.{RecoversEver}
-use Rattle.world.specs.GroupView.{GroupView, IsGroupWorld, nodes_of}
+use Rattle.world.specs.GroupView.{GroupView, GroupInvariant, nodes_of}
 use Rattle.world.specs.GroupClaims.{GroupRecoversEver}
 
 -- a group has two servers at least
@@ -19,7 +19,7 @@ pub two : (n : ℕ) → IsGroup n → 2 ≤ n
 two n (inl e) = omega (arith, e)
 two n (inr e) = omega (arith, e)
 
-pub recovers_ever : {S C : Type 0} (m : Meaning S C) (seen : WorldView S C) → IsRaftWorld m seen →
+pub recovers_ever : {S C : Type 0} (m : MachineSpec S C) (seen : WorldView S C) → IsRaftWorld m seen →
     EachRun m (λ n events past w. 2 ≤ n → (Q : ℕ → Bool) → Quorum n Q → AllUp n Q w → HasRoom n Q w → CanSettle m n Q w) →
     EachRun m (λ n events past w. 2 ≤ n → HasRoom n everybody w → CanRecover m n w) → RecoversEver m seen
 recovers_ever m seen r settles recovers =
@@ -34,7 +34,7 @@ recovers_ever m seen r settles recovers =
       };
     }
 
-pub group_recovers_ever : (view : GroupView) → IsGroupWorld view → LimitsAreKept →
+pub group_recovers_ever : (view : GroupView) → GroupInvariant view → LimitsAreKept →
     EachGroupRun (λ n nodes events past w. 2 ≤ n → (Q : ℕ → Bool) → Quorum n Q → AllUp n Q (raft_of w) → HasRoom n Q (raft_of w) → GroupCanSettle n Q w) →
     EachGroupRun (λ n nodes events past w. 2 ≤ n → HasRoom n everybody (raft_of w) → GroupCanRecover n w) → GroupRecoversEver view
 group_recovers_ever view r limits settles recovers =

@@ -3,7 +3,7 @@ use Rattle.std.proofs.Common.{◌≡◌, ◌≢◌, ℕ, ◌<◌, Bool, true, fa
 use Rattle.std.proofs.lemmas.Bool.{lt-ltb, eq-eqb}
 use Rattle.rows.specs.declared.refusal.Refusal.{Refusal}
 use Rattle.rows.specs.declared.refusal.Refusal.TheVariants as refusals
-use Rattle.machine_model.specs.Meaning.{Meaning}
+use Rattle.machine_model.specs.MachineSpec.{MachineSpec}
 use Rattle.wire.specs.Messages.{Message as WireMessage, kind_of, is_of_log}
 use Rattle.wire.specs.declared.body.Body.{Body}
 use Rattle.wire.specs.declared.body.Body.TheVariants as bodies
@@ -15,8 +15,8 @@ use Rattle.raft_model.specs.Worlds.{Event, Deliver, TimesOut, Beats, Proposes, C
 use Rattle.raft_core.specs.RaftView.{RaftView}
 use Rattle.raft_core.specs.Frames.{IsFrameOf, Says}
 use Rattle.raft_core.specs.Inputs.{Handed, Bytes, Own, Reads}
-use Rattle.raft_core.specs.Steps.{Represents}
-use Rattle.raft_core.specs.Refusals.{refusal, refusal_by, frame_refusal, MayLack, IsRefused, LackLeaves, LackStays, RefusalLeaves, Stays}
+use Rattle.raft_core.specs.Steps.{Refines}
+use Rattle.raft_core.specs.Refusals.{refusal, refusal_by, frame_refusal, MayEndOutOfMemory, IsRefused, OutOfMemoryLeaves, OutOfMemoryStays, RefusalLeaves, Stays}
 use Rattle.world.specs.Steps.{LeftServer}
 use Rattle.world.specs.Inner.HistoryView.{HistoryView}
 use Rattle.world.specs.Inner.Inputs.{is_restart, Leaves, StaysOrLeft, handed_by}
@@ -37,7 +37,7 @@ IsAddressed n me Crash = Unit {0}
 IsAddressed n me Restart = Unit {0}
 
 -- a body that says a message of the log is of such a kind
-said_kind : {S C : Type 0} (m : Meaning S C) (from to : ℕ) (body : Body S C) (x : Message C) → Says m from to body x → is_of_log (kind_of body) ≡ true
+said_kind : {S C : Type 0} (m : MachineSpec S C) (from to : ℕ) (body : Body S C) (x : Message C) → Says m from to body x → is_of_log (kind_of body) ≡ true
 said_kind m from to (bodies.VoteRequest v) x is = refl
 said_kind m from to (bodies.VoteReply v) x is = refl
 said_kind m from to (bodies.Append a) x is = refl
@@ -53,7 +53,7 @@ said_kind m from to (bodies.List index rows) x is = absurd (cc is)
 said_kind m from to (bodies.Report items) x is = absurd (cc is)
 said_kind m from to (bodies.Told kind reason) x is = absurd (cc is)
 
-module _ {S C : Type 0} (m : Meaning S C) (n me : ℕ)
+module _ {S C : Type 0} (m : MachineSpec S C) (n me : ℕ)
     (again : (y : WireMessage S C) → MessageFits m y → message_at m (message_text m y) ≡ Ok y) where
   -- a frame that was sent to this server is not refused for its bytes
   readable : (bytes : List ℕ) (x : Message C) → IsFrameOf m bytes x → x.from < n → x.to ≡ me → frame_refusal m n me bytes ≡ None
@@ -84,9 +84,9 @@ leads_up Follower h = refl
 leads_up (Candidate votes) h = refl
 leads_up (Leader next match) h = refl
 
-module _ {S C : Type 0} (m : Meaning S C) (h h2 : RaftView S C) (sent : List Frame) (s : Raft C) where
+module _ {S C : Type 0} (m : MachineSpec S C) (h h2 : RaftView S C) (sent : List Frame) (s : Raft C) where
   -- want of memory is a crash
-  pub fallen : (e : Event C) → is_restart e ≡ false → MayLack s.mode (handed_by sent e) → LackLeaves m h s (handed_by sent e) h2 → (is_up s.mode ≡ true) × Represents m h2 (crashed s)
+  pub fallen : (e : Event C) → is_restart e ≡ false → MayEndOutOfMemory s.mode (handed_by sent e) → OutOfMemoryLeaves m h s (handed_by sent e) h2 → (is_up s.mode ≡ true) × Refines m h2 (crashed s)
   fallen (Deliver k) other may left = (may, left)
   fallen (TimesOut i) other may left = (may.0, left)
   fallen (Beats i) other may left = (leads_up s.mode may, left)
@@ -96,7 +96,7 @@ module _ {S C : Type 0} (m : Meaning S C) (h h2 : RaftView S C) (sent : List Fra
   fallen (Restarts i) other may left = absurd (cc)
 
   -- but that of a restart, of one that is down
-  pub stayed : (e : Event C) → is_restart e ≡ true → MayLack s.mode (handed_by sent e) → is_up s.mode ≡ false
+  pub stayed : (e : Event C) → is_restart e ≡ true → MayEndOutOfMemory s.mode (handed_by sent e) → is_up s.mode ≡ false
   stayed (Deliver k) so may = absurd (cc)
   stayed (TimesOut i) so may = absurd (cc)
   stayed (Beats i) so may = absurd (cc)
@@ -106,7 +106,7 @@ module _ {S C : Type 0} (m : Meaning S C) (h h2 : RaftView S C) (sent : List Fra
   stayed (Restarts i) so may = may
 
 -- which changes nothing
-pub same_raft : {S C : Type 0} (h h2 : RaftView S C) (sent : List Frame) (e : Event C) → is_restart e ≡ true → LackStays (handed_by sent e) h h2 → h2 ≡ h
+pub same_raft : {S C : Type 0} (h h2 : RaftView S C) (sent : List Frame) (e : Event C) → is_restart e ≡ true → OutOfMemoryStays (handed_by sent e) h h2 → h2 ≡ h
 same_raft h h2 sent (Deliver k) so left = absurd (cc)
 same_raft h h2 sent (TimesOut i) so left = absurd (cc)
 same_raft h h2 sent (Beats i) so left = absurd (cc)
@@ -118,13 +118,13 @@ same_raft h h2 sent (Restarts i) so left = left.1
 pub as_is : {S C : Type 0} (old new : RaftView S C) → new ≡ old → LeftServer old new
 as_is old new e = (record { me = ap (λ (x : RaftView _ _). x.me) e; size = ap (λ (x : RaftView _ _). x.size) e; base = ap (λ (x : RaftView _ _). x.base) e; server = ap (λ (x : RaftView _ _). x.server) e }, λ h. ap (λ (x : RaftView _ _). x.projected) e ∙ h)
 
-module _ {S C : Type 0} (m : Meaning S C) (old : RaftView S C) (h : Handed C) (new : RaftView S C) where
+module _ {S C : Type 0} (m : MachineSpec S C) (old : RaftView S C) (h : Handed C) (new : RaftView S C) where
   leaves : (s : Raft C) (cause : Refusal) → RefusalLeaves m old s h cause new → Leaves m old s h cause new
   leaves s refusals.NoMemory left = left
   leaves s _ left = as_is old new left
 
   -- a refusal of a step leaves the same server
-  pub step_leaves : {T : Type 0} (r : Result T Refusal) → IfErr r (λ cause. (s : Raft C) → Represents m old s → RefusalLeaves m old s h cause new) → IfErr r (λ cause. (s : Raft C) → Represents m old s → Leaves m old s h cause new)
+  pub step_leaves : {T : Type 0} (r : Result T Refusal) → IfErr r (λ cause. (s : Raft C) → Refines m old s → RefusalLeaves m old s h cause new) → IfErr r (λ cause. (s : Raft C) → Refines m old s → Leaves m old s h cause new)
   step_leaves (Ok x) f = tt
   step_leaves (Err cause) f = λ s r. leaves s cause (f s r)
 
@@ -138,8 +138,8 @@ module _ {S C : Type 0} (old : RaftView S C) (h : Handed C) (new : RaftView S C)
   step_stays (Err cause) f = stays cause f
 
 -- any other refusal leaves the same server, and is that of what is handed in
-pub part_refused : {S C : Type 0} (m : Meaning S C) (h h2 : RaftView S C) (past : HistoryView C) (e : Event C) (cause : Refusal) → cause ≢ refusals.NoMemory →
-    ((s : Raft C) → Represents m h s → IsRefused m h.size h.me s (handed_by past.sent e) cause) →
+pub part_refused : {S C : Type 0} (m : MachineSpec S C) (h h2 : RaftView S C) (past : HistoryView C) (e : Event C) (cause : Refusal) → cause ≢ refusals.NoMemory →
+    ((s : Raft C) → Refines m h s → IsRefused m h.size h.me s (handed_by past.sent e) cause) →
     StaysOrLeft (handed_by past.sent e) cause h h2 → LeftServer h h2 × IsPartRefused m h past e cause
 part_refused m h h2 past e refusals.NoMemory other refused left = absurd (other refl)
 part_refused m h h2 past e _ other refused left = (left, refused)

@@ -1,26 +1,26 @@
 -- The run of a list of events comes again when the list is played, unless memory is wanting.
 use Rattle.std.proofs.Common.{◌≡◌, ℕ, ◌⊎◌, inl, inr, Some, Ok, Err, List, [], ◌∷◌, ◌++◌, length, refl, sym, ap, ◌∙◌, subst, slice_get}
-use Rattle.machine_model.specs.Meaning.{Meaning}
+use Rattle.machine_model.specs.MachineSpec.{MachineSpec}
 use Rattle.raft_model.specs.Worlds.{World, Event, Run, start, more, happens, Outcome, Kept, LeftOut, Trace, nothing, kept, crashed, left_out}
 use Rattle.raft_model.specs.Worlds.{Crashed as OutcomeCrashed}
 use Rattle.raft_safety.proofs.Places.{get-more, get-last}
 use Rattle.raft_safety.proofs.Chains.{greatest_one}
 use Rattle.world.specs.WorldView.{WorldView, RunsTo}
-use Rattle.world.specs.Steps.{Played, Lacked, Replays}
+use Rattle.world.specs.Steps.{Played, WasOutOfMemory, Replays}
 use Rattle.world.proofs.Runs.{ends_alike, no_end, runs_are_one}
 
-module _ {S C : Type 0} (m : Meaning S C) (n : ℕ) where
+module _ {S C : Type 0} (m : MachineSpec S C) (n : ℕ) where
   -- an event for which memory was wanting
   record Lack (outcomes : List Outcome) : Type 0 where
     place : ℕ
     outcome : Outcome
     at : slice_get outcomes place ≡ Some outcome
-    lacked : Lacked outcome
+    lacked : WasOutOfMemory outcome
 
   lack_on : (outcomes : List Outcome) (o : Outcome) → Lack outcomes → Lack (outcomes ++ o ∷ [])
   lack_on outcomes o l = record { place = l.place; outcome = l.outcome; at = get-more outcomes (o ∷ []) l.place l.outcome l.at; lacked = l.lacked }
 
-  lack_now : (outcomes : List Outcome) (o : Outcome) → Lacked o → Lack (outcomes ++ o ∷ [])
+  lack_now : (outcomes : List Outcome) (o : Outcome) → WasOutOfMemory o → Lack (outcomes ++ o ∷ [])
   lack_now outcomes o l = record { place = length outcomes; outcome = o; at = get-last outcomes o; lacked = l }
 
   -- each event was kept, on the way of the run

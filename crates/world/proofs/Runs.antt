@@ -1,6 +1,6 @@
 -- A list of events has one run.
 use Rattle.std.proofs.Common.{◌≡◌, ℕ, Ok, List, [], ◌∷◌, ◌++◌, length, refl, sym, ap, ◌∙◌, subst}
-use Rattle.machine_model.specs.Meaning.{Meaning}
+use Rattle.machine_model.specs.MachineSpec.{MachineSpec}
 use Rattle.machine_model.specs.declared.entry.Entry.{Entry}
 use Rattle.raft_model.specs.Worlds.{World, Event, Run, start, more, happens}
 use Rattle.raft_model.specs.Chains.{Chain}
@@ -25,7 +25,7 @@ pub no_end : {A : Type 0} (xs : List A) (x : A) → xs ++ x ∷ [] ≡ [] → �
 no_end [] x h = cc
 no_end (a ∷ xs) x h = cc
 
-module _ {S C : Type 0} (m : Meaning S C) (n : ℕ) where
+module _ {S C : Type 0} (m : MachineSpec S C) (n : ℕ) where
   pub run_is_one : (events again : List (Event C)) (past past2 : List (World C)) (w w2 : World C) → events ≡ again → Run m n events past w → Run m n again past2 w2 → (past ≡ past2) × (w ≡ w2)
   run_is_one events again past past2 w w2 same start start = (refl, refl)
   run_is_one events again past past2 w w2 same start (more {events = fs} f next2 run2 is2 so2) = absurd (no_end fs f (sym same))
@@ -39,7 +39,7 @@ module _ {S C : Type 0} (m : Meaning S C) (n : ℕ) where
       let k : next ≡ next2 = cc in
       (ap (λ l. l ++ last ∷ []) q.0 ∙ ap (λ v. before2 ++ v ∷ []) y, k)
 
-module _ {S C : Type 0} (m : Meaning S C) where
+module _ {S C : Type 0} (m : MachineSpec S C) where
   -- so all runs of a value are one
   pub runs_are_one : (seen : WorldView S C) (past past2 : List (World C)) (w w2 : World C) → RunsTo m seen past w → RunsTo m seen past2 w2 → (past ≡ past2) × (w ≡ w2)
   runs_are_one seen past past2 w w2 one other = run_is_one m (length seen.servers) seen.trace seen.trace past past2 w w2 refl one.run other.run

@@ -1,12 +1,12 @@
 -- A world in which nothing happened.
 use Rattle.std.proofs.Common.{◌≡◌, ℕ, List, [], ◌∷◌, length, refl, sym, ◌∙◌, subst, slice_set}
 use Rattle.std.specs.List.{AllZip}
-use Rattle.machine_model.specs.Meaning.{Meaning}
+use Rattle.machine_model.specs.MachineSpec.{MachineSpec}
 use Rattle.raft_model.specs.Rafts.{Raft}
 use Rattle.raft_model.specs.Worlds.{World, Run}
 use Rattle.raft_core.specs.RaftView.{RaftView}
 use Rattle.raft_core.specs.Frames.{FrameCarries}
-use Rattle.raft_core.specs.Steps.{Represents}
+use Rattle.raft_core.specs.Steps.{Refines}
 use Rattle.raft_core.proofs.Fills.{same_fills}
 use Rattle.raft_safety.specs.Claims.{IsGreatestCommit}
 use Rattle.rows.specs.GroupSizes.{IsGroup}
@@ -25,13 +25,13 @@ same_set xs i x y here same = subst (λ l. AllZip LeftServer l (slice_set xs i y
 pub same_world : {S C : Type 0} (w : WorldView S C) → SameWorld w w
 same_world w = record { servers = same_all w.servers; sent = refl; trace = refl; chain = refl }
 
-module _ {S C : Type 0} (m : Meaning S C) where
-  represents_on : (xs ys : List (RaftView S C)) (ss : List (Raft C)) → AllZip LeftServer xs ys → AllZip (Represents m) xs ss → AllZip (Represents m) ys ss
-  represents_on [] [] ss same r = r
-  represents_on [] (y ∷ ys) ss same r = absurd same
-  represents_on (x ∷ xs) [] ss same r = absurd same
-  represents_on (x ∷ xs) (y ∷ ys) [] same r = absurd r
-  represents_on (x ∷ xs) (y ∷ ys) (s ∷ ss) same r = let one = same.0.0 in (same_fills m x y one s r.0, represents_on xs ys ss same.1 r.1)
+module _ {S C : Type 0} (m : MachineSpec S C) where
+  refines_on : (xs ys : List (RaftView S C)) (ss : List (Raft C)) → AllZip LeftServer xs ys → AllZip (Refines m) xs ss → AllZip (Refines m) ys ss
+  refines_on [] [] ss same r = r
+  refines_on [] (y ∷ ys) ss same r = absurd same
+  refines_on (x ∷ xs) [] ss same r = absurd same
+  refines_on (x ∷ xs) (y ∷ ys) [] same r = absurd r
+  refines_on (x ∷ xs) (y ∷ ys) (s ∷ ss) same r = let one = same.0.0 in (same_fills m x y one s r.0, refines_on xs ys ss same.1 r.1)
 
   module _ (old new : WorldView S C) (same : SameWorld old new) where
     pub same_count : length new.servers ≡ length old.servers
@@ -39,11 +39,11 @@ module _ {S C : Type 0} (m : Meaning S C) where
 
     pub same_runs : (past : List (World C)) (w : World C) → RunsTo m old past w → RunsTo m new past w
     same_runs past w r =
-        let st = r.represents in
+        let st = r.refines in
         record {
           run = subst (λ n. Run m n new.trace past w) (sym same_count) (subst (λ es. Run m (length old.servers) es past w) (sym same.trace) r.run);
-          represents = record {
-            servers = represents_on old.servers new.servers w.servers same.servers st.servers;
+          refines = record {
+            servers = refines_on old.servers new.servers w.servers same.servers st.servers;
             sent = subst (λ fs. AllZip (FrameCarries m) fs w.sent) (sym same.sent) st.sent;
           };
           chain = subst (λ c. IsGreatestCommit past w c) (sym same.chain) r.chain;

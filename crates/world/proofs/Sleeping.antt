@@ -3,7 +3,7 @@ use Rattle.std.proofs.Common.{◌≡◌, ◌≢◌, ◌⊎◌, inl, inr, ◌&&�
 use Rattle.std.specs.List.{AllZip}
 use Rattle.rows.specs.declared.refusal.Refusal.{Refusal}
 use Rattle.rows.specs.declared.refusal.Refusal.TheVariants as refusals
-use Rattle.machine_model.specs.Meaning.{Meaning, LawfulMachine, IsMachineRefusal}
+use Rattle.machine_model.specs.MachineSpec.{MachineSpec, LawfulMachine, IsMachineRefusal}
 use Rattle.wire.specs.Frames.{Frame}
 use Rattle.raft_model.specs.Logs.{MAX, state_after}
 use Rattle.raft_model.specs.Rafts.{Raft, Mode, Down, Follower, Candidate, Leader, RaftTurn, is_up, is_leader}
@@ -12,7 +12,7 @@ use Rattle.raft_model.specs.Worlds.{World, Event, happens, after_turn, acting_se
 use Rattle.raft_safety.proofs.Places.{get-within}
 use Rattle.raft_core.specs.RaftView.{RaftView}
 use Rattle.raft_core.specs.Frames.{FrameCarries}
-use Rattle.raft_core.specs.Steps.{Represents, role_of}
+use Rattle.raft_core.specs.Steps.{Refines, role_of}
 use Rattle.raft_core.specs.declared.role.Role.{Role}
 use Rattle.world.specs.WorldView.{WorldView}
 use Rattle.world.specs.Steps.{RefusesEvent, IsAwake}
@@ -21,7 +21,7 @@ use Rattle.world.proofs.Zips.{zip_at, zip_none}
 use Rattle.world.proofs.Inputs.{brings}
 use Rattle.world.proofs.Taken.{took}
 
-module _ {S C : Type 0} (m : Meaning S C) (sent : List Frame) (w : World C) (z : AllZip (FrameCarries m) sent w.sent) where
+module _ {S C : Type 0} (m : MachineSpec S C) (sent : List Frame) (w : World C) (z : AllZip (FrameCarries m) sent w.sent) where
   absent : (e : Event C) (i : ℕ) → acting_server m w e ≡ Some i → slice_get w.servers i ≡ None → happens m w e ≡ Err refusals.OutOfRange
   absent e i who gone = let b = brings m sent w e i z who in b.takes ∙ rw gone refl
 
@@ -45,7 +45,7 @@ pub own_is_no_down : (r : Refusal) → IsMachineRefusal r → r ≢ refusals.Dow
 own_is_no_down refusals.Down h e = h
 own_is_no_down _ h e = absurd (cc)
 
-module _ {S C : Type 0} (m : Meaning S C) (law : LawfulMachine m) (n me : ℕ) (s : Raft C) where
+module _ {S C : Type 0} (m : MachineSpec S C) (law : LawfulMachine m) (n me : ℕ) (s : Raft C) where
   awake_unless : (refusal : Option Refusal) (turn : RaftTurn C) → ((r : Refusal) → refusal ≡ Some r → r ≢ refusals.Down) → Awake (unless refusal turn)
   awake_unless None turn h = tt
   awake_unless (Some r) turn h = h r refl
@@ -86,25 +86,25 @@ awake_role Follower h = refl
 awake_role (Candidate votes) h = refl
 awake_role (Leader next match) h = refl
 
-module _ {S C : Type 0} (m : Meaning S C) (now : WorldView S C) (e : Event C) (i : ℕ) (acts : ActsIn m now.sent e i) where
+module _ {S C : Type 0} (m : MachineSpec S C) (now : WorldView S C) (e : Event C) (i : ℕ) (acts : ActsIn m now.sent e i) where
   pub refuses_absent : slice_get now.servers i ≡ None → RefusesEvent m now e refusals.OutOfRange
   refuses_absent gone past w r =
-      let st = r.represents in
-      absent m now.sent w st.sent e i (acts w st.sent) (zip_none (Represents m) now.servers w.servers i st.servers gone)
+      let st = r.refines in
+      absent m now.sent w st.sent e i (acts w st.sent) (zip_none (Refines m) now.servers w.servers i st.servers gone)
 
-  module _ (h : RaftView S C) (role : Option Role) (here : slice_get now.servers i ≡ Some h) (says : (s : Raft C) → Represents m h s → role ≡ role_of s.mode) where
+  module _ (h : RaftView S C) (role : Option Role) (here : slice_get now.servers i ≡ Some h) (says : (s : Raft C) → Refines m h s → role ≡ role_of s.mode) where
     pub refuses_sleeping : is_some role ≡ false → is_restart e ≡ false → RefusesEvent m now e refusals.Down
     refuses_sleeping none other past w r =
-        let st = r.represents in
-        let s = zip_at (Represents m) now.servers w.servers i h st.servers here in
+        let st = r.refines in
+        let s = zip_at (Refines m) now.servers w.servers i h st.servers here in
         let down : is_up s.0.mode ≡ false = asleep s.0.mode (ap is_some (sym (says s.0 s.2)) ∙ none) in
         sleeping m now.sent w st.sent e i s.0 (acts w st.sent) s.1 down other
 
     -- a server that is up does not refuse for being down, nor does one that is to restart
     pub is_awake : LawfulMachine m → (is_some role ≡ true) ⊎ (is_restart e ≡ true) → IsAwake m now e
     is_awake law up past w r =
-        let st = r.represents in
-        let s = zip_at (Represents m) now.servers w.servers i h st.servers here in
+        let st = r.refines in
+        let s = zip_at (Refines m) now.servers w.servers i h st.servers here in
         let b = brings m now.sent w e i st.sent (acts w st.sent) in
         let n = length w.servers in
         let stepped : Awake (step m n i s.0 b.input) = elim up [

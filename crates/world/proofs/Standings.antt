@@ -5,7 +5,7 @@ use Rattle.std.proofs.lemmas.Option.{same_Some}
 use Rattle.std.specs.Prelude.{IfOk, OnErr}
 use Rattle.rows.specs.declared.refusal.Refusal.{Refusal}
 use Rattle.rows.specs.declared.refusal.Refusal.TheVariants as refusals
-use Rattle.machine_model.specs.Meaning.{Meaning}
+use Rattle.machine_model.specs.MachineSpec.{MachineSpec}
 use Rattle.machine_model.specs.declared.entry.Entry.{Entry}
 use Rattle.raft_model.specs.Logs.{term_at}
 use Rattle.raft_model.specs.Rafts.{Raft, RaftTurn, is_up, is_leader, silent, extended}
@@ -13,14 +13,14 @@ use Rattle.raft_model.specs.Steps.{Propose, unless, admission_refusal, step}
 use Rattle.raft_model.specs.Worlds.{World, Event, Proposes, Run, start, more, happens, input_to, after_turn}
 use Rattle.raft_model.specs.Chains.{At, Chain}
 use Rattle.raft_model.proofs.Cases.{same_ok}
-use Rattle.raft_core.specs.declared.ticket.Standing.{Standing}
-use Rattle.raft_core.specs.declared.ticket.Standing.TheVariants.{Open, Settled, Lost, Covered}
+use Rattle.raft_core.specs.declared.ticket.ProposalStatus.{ProposalStatus}
+use Rattle.raft_core.specs.declared.ticket.ProposalStatus.TheVariants.{Pending, Committed, Superseded, Compacted}
 use Rattle.raft_core.specs.RaftView.{RaftView}
-use Rattle.raft_core.specs.Steps.{Represents}
-use Rattle.raft_core.specs.Tickets.{IsTicket, standing_of}
+use Rattle.raft_core.specs.Steps.{Refines}
+use Rattle.raft_core.specs.Tickets.{IsTicket, proposal_status_of}
 use Rattle.raft_safety.specs.Claims.{EachRun}
 use Rattle.raft_safety.specs.Tickets as tickets
-use Rattle.raft_safety.specs.Tickets.{Stood, GoesOn, CommittedIsSettled}
+use Rattle.raft_safety.specs.Tickets.{Stood, GoesOn, CommitIsFinal}
 use Rattle.raft_safety.proofs.Places.{get_set-same, get-last, get-within, push_length}
 use Rattle.raft_safety.proofs.Settling.{stood_later}
 use Rattle.world.specs.declared.done.Done.{Done}
@@ -28,31 +28,31 @@ use Rattle.world.specs.declared.done.Done.TheVariants.{Taken, Crashed}
 use Rattle.world.specs.WorldView.{WorldView, RunsTo}
 use Rattle.world.specs.Steps.{EventHappened, WasDone, SameWorld}
 use Rattle.world.specs.Claims.{OneListEver}
-use Rattle.world.specs.Tickets.{running_standing, standing_in, TicketNow, StoodEver, SettledEver}
+use Rattle.world.specs.Tickets.{running_status, proposal_status_in, TicketNow, StoodEver, CommittedEver}
 use Rattle.world.proofs.Runs.{ends_alike, no_end, runs_are_one}
 use Rattle.world.proofs.Same.{same_runs}
 use Rattle.world.proofs.Zips.{zip_at, zip_none}
 
 -- ---- what a standing says of its server
 
-abbrev standing_by : Bool → Bool → Bool → Bool → Option Standing
-standing_by up behind covered same = if up then Some (if behind then Open else if covered then Covered else if same then Settled else Lost) else None
+abbrev standing_by : Bool → Bool → Bool → Bool → Option ProposalStatus
+standing_by up behind covered same = if up then Some (if behind then Pending else if covered then Compacted else if same then Committed else Superseded) else None
 
-settled_by : (up behind covered same : Bool) → standing_by up behind covered same ≡ Some Settled → (behind ≡ false) × (covered ≡ false) × (same ≡ true)
+settled_by : (up behind covered same : Bool) → standing_by up behind covered same ≡ Some Committed → (behind ≡ false) × (covered ≡ false) × (same ≡ true)
 settled_by false behind covered same h = absurd (cc)
 settled_by true true covered same h = absurd (cc)
 settled_by true false true same h = absurd (cc)
 settled_by true false false true h = (refl, refl, refl)
 settled_by true false false false h = absurd (cc)
 
-lost_by : (up behind covered same : Bool) → standing_by up behind covered same ≡ Some Lost → (behind ≡ false) × (covered ≡ false) × (same ≡ false)
+lost_by : (up behind covered same : Bool) → standing_by up behind covered same ≡ Some Superseded → (behind ≡ false) × (covered ≡ false) × (same ≡ false)
 lost_by false behind covered same h = absurd (cc)
 lost_by true true covered same h = absurd (cc)
 lost_by true false true same h = absurd (cc)
 lost_by true false false true h = absurd (cc)
 lost_by true false false false h = (refl, refl, refl)
 
-covered_by : (up behind covered same : Bool) → standing_by up behind covered same ≡ Some Covered → behind ≡ false
+covered_by : (up behind covered same : Bool) → standing_by up behind covered same ≡ Some Compacted → behind ≡ false
 covered_by false behind covered same h = absurd (cc)
 covered_by true true covered same h = absurd (cc)
 covered_by true false covered same h = refl
@@ -64,17 +64,17 @@ pub record Applies {C : Type 0} (s : Raft C) (index : ℕ) (IsSuch : ℕ → Typ
   pub such : IsSuch (term_at s.log index)
 
 module _ {C : Type 0} (s : Raft C) (index term : ℕ) where
-  settled_applies : standing_of s index term ≡ Some Settled → Applies s index (λ t. t ≡ term)
+  settled_applies : proposal_status_of s index term ≡ Some Committed → Applies s index (λ t. t ≡ term)
   settled_applies h =
       let q = settled_by (is_up s.mode) (nat_lt s.commit index) (nat_le index s.covered) (term_at s.log index == term) h in
       record { one = omega (arith, leb-false index s.covered q.1); applied = ltb-false s.commit index q.0; such = eqb-true (term_at s.log index) term q.2 }
 
-  lost_applies : standing_of s index term ≡ Some Lost → Applies s index (λ t. t ≢ term)
+  lost_applies : proposal_status_of s index term ≡ Some Superseded → Applies s index (λ t. t ≢ term)
   lost_applies h =
       let q = lost_by (is_up s.mode) (nat_lt s.commit index) (nat_le index s.covered) (term_at s.log index == term) h in
       record { one = omega (arith, leb-false index s.covered q.1); applied = ltb-false s.commit index q.0; such = eqb-false (term_at s.log index) term q.2 }
 
-  covered_applies : 1 ≤ index → standing_of s index term ≡ Some Covered → Applies s index (λ t. Unit {0})
+  covered_applies : 1 ≤ index → proposal_status_of s index term ≡ Some Compacted → Applies s index (λ t. Unit {0})
   covered_applies one h =
       let q = covered_by (is_up s.mode) (nat_lt s.commit index) (nat_le index s.covered) (term_at s.log index == term) h in
       record { one = one; applied = ltb-false s.commit index q; such = tt }
@@ -84,43 +84,43 @@ abbrev pub AppliesIn : {C : Type 0} → World C → ℕ → ℕ → (ℕ → Typ
 AppliesIn {C} w i index IsSuch = (s : Raft C) × (slice_get w.servers i ≡ Some s) × Applies s index IsSuch
 
 module _ {C : Type 0} (index term : ℕ) where
-  settled_running : (o : Option (Raft C)) → running_standing index term o ≡ Some Settled → (s : Raft C) × (o ≡ Some s) × Applies s index (λ t. t ≡ term)
+  settled_running : (o : Option (Raft C)) → running_status index term o ≡ Some Committed → (s : Raft C) × (o ≡ Some s) × Applies s index (λ t. t ≡ term)
   settled_running None h = absurd (cc)
   settled_running (Some s) h = (s, refl, settled_applies s index term h)
 
-  lost_running : (o : Option (Raft C)) → running_standing index term o ≡ Some Lost → (s : Raft C) × (o ≡ Some s) × Applies s index (λ t. t ≢ term)
+  lost_running : (o : Option (Raft C)) → running_status index term o ≡ Some Superseded → (s : Raft C) × (o ≡ Some s) × Applies s index (λ t. t ≢ term)
   lost_running None h = absurd (cc)
   lost_running (Some s) h = (s, refl, lost_applies s index term h)
 
-  covered_running : 1 ≤ index → (o : Option (Raft C)) → running_standing index term o ≡ Some Covered → (s : Raft C) × (o ≡ Some s) × Applies s index (λ t. Unit {0})
+  covered_running : 1 ≤ index → (o : Option (Raft C)) → running_status index term o ≡ Some Compacted → (s : Raft C) × (o ≡ Some s) × Applies s index (λ t. Unit {0})
   covered_running one None h = absurd (cc)
   covered_running one (Some s) h = (s, refl, covered_applies s index term one h)
 
-  pub settled_in : (w : World C) (i : ℕ) (r : Option Standing) → r ≡ standing_in w i index term → r ≡ Some Settled → AppliesIn w i index (λ t. t ≡ term)
+  pub settled_in : (w : World C) (i : ℕ) (r : Option ProposalStatus) → r ≡ proposal_status_in w i index term → r ≡ Some Committed → AppliesIn w i index (λ t. t ≡ term)
   settled_in w i r is h = settled_running (slice_get w.servers i) (sym is ∙ h)
 
-  pub lost_in : (w : World C) (i : ℕ) (r : Option Standing) → r ≡ standing_in w i index term → r ≡ Some Lost → AppliesIn w i index (λ t. t ≢ term)
+  pub lost_in : (w : World C) (i : ℕ) (r : Option ProposalStatus) → r ≡ proposal_status_in w i index term → r ≡ Some Superseded → AppliesIn w i index (λ t. t ≢ term)
   lost_in w i r is h = lost_running (slice_get w.servers i) (sym is ∙ h)
 
-  pub covered_in : 1 ≤ index → (w : World C) (i : ℕ) (r : Option Standing) → r ≡ standing_in w i index term → r ≡ Some Covered → AppliesIn w i index (λ t. Unit {0})
+  pub covered_in : 1 ≤ index → (w : World C) (i : ℕ) (r : Option ProposalStatus) → r ≡ proposal_status_in w i index term → r ≡ Some Compacted → AppliesIn w i index (λ t. Unit {0})
   covered_in one w i r is h = covered_running one (slice_get w.servers i) (sym is ∙ h)
 
 -- ---- and of its runs
 
-module _ {S C : Type 0} (m : Meaning S C) where
+module _ {S C : Type 0} (m : MachineSpec S C) where
   module _ (seen : WorldView S C) (i index term : ℕ) (past : List (World C)) (w : World C) (runs : RunsTo m seen past w) where
-    pub no_standing : slice_get seen.servers i ≡ None → None ≡ standing_in w i index term
-    no_standing gone = let st = runs.represents in let none : slice_get w.servers i ≡ None = zip_none (Represents m) seen.servers w.servers i st.servers gone in rw none refl
+    pub no_standing : slice_get seen.servers i ≡ None → None ≡ proposal_status_in w i index term
+    no_standing gone = let st = runs.refines in let none : slice_get w.servers i ≡ None = zip_none (Refines m) seen.servers w.servers i st.servers gone in rw none refl
 
-    pub standing_is : (h : RaftView S C) (r : Option Standing) → slice_get seen.servers i ≡ Some h → ((s : Raft C) → Represents m h s → r ≡ standing_of s index term) → r ≡ standing_in w i index term
+    pub standing_is : (h : RaftView S C) (r : Option ProposalStatus) → slice_get seen.servers i ≡ Some h → ((s : Raft C) → Refines m h s → r ≡ proposal_status_of s index term) → r ≡ proposal_status_in w i index term
     standing_is h r here says =
-        let st = runs.represents in
-        let s = zip_at (Represents m) seen.servers w.servers i h st.servers here in
-        says s.0 s.2 ∙ ap (running_standing index term) (sym s.1)
+        let st = runs.refines in
+        let s = zip_at (Refines m) seen.servers w.servers i h st.servers here in
+        says s.0 s.2 ∙ ap (running_status index term) (sym s.1)
 
   -- what a server has applied is settled
-  pub settled_ever : (seen : WorldView S C) → OneListEver m seen → EachRun m (λ n events past w. (list : List (Entry C)) → Chain past w list → CommittedIsSettled past w list) →
-      (i index : ℕ) (IsSuch : ℕ → Type 0) → ((past : List (World C)) (w : World C) → RunsTo m seen past w → AppliesIn w i index IsSuch) → SettledEver m seen index IsSuch
+  pub settled_ever : (seen : WorldView S C) → OneListEver m seen → EachRun m (λ n events past w. (list : List (Entry C)) → Chain past w list → CommitIsFinal past w list) →
+      (i index : ℕ) (IsSuch : ℕ → Type 0) → ((past : List (World C)) (w : World C) → RunsTo m seen past w → AppliesIn w i index IsSuch) → CommittedEver m seen index IsSuch
   settled_ever seen l settles i index IsSuch known =
       let runs = l.runs in
       let s = known l.past l.world l.runs in
@@ -138,7 +138,7 @@ module _ {S C : Type 0} (m : Meaning S C) where
         of = subst IsSuch (sym q.of) k.such;
         settled = λ past w r.
             let same = runs_are_one m seen l.past past l.world w l.runs r in
-            subst (λ x. tickets.Settled past x l.list index q.entry) same.1 (subst (λ x. tickets.Settled x l.world l.list index q.entry) same.0 q.settled);
+            subst (λ x. tickets.Committed past x l.list index q.entry) same.1 (subst (λ x. tickets.Committed x l.world l.list index q.entry) same.0 q.settled);
       }
 
   -- ---- a proposal
@@ -176,18 +176,18 @@ module _ {S C : Type 0} (m : Meaning S C) where
     pub taken_there : (old new : WorldView S C) → EventHappened m old (Proposes i command) new → OneListEver m new → slice_get new.servers i ≡ None → ⊥
     taken_there old new happened l gone =
         let runs = l.runs in
-        let st = runs.represents in
+        let st = runs.refines in
         let p = last_step (length new.servers) new.trace l.past l.world runs.run old.trace (Proposes i command) happened.trace in
         let q = taken_by p.0 l.world (slice_get p.0.servers i) refl p.1 in
-        let none : slice_get l.world.servers i ≡ None = zip_none (Represents m) new.servers l.world.servers i st.servers gone in
+        let none : slice_get l.world.servers i ≡ None = zip_none (Refines m) new.servers l.world.servers i st.servers gone in
         let both = sym q.1 ∙ none in cc
 
     module _ (old new : WorldView S C) (happened : EventHappened m old (Proposes i command) new) (view : RaftView S C) (here : slice_get new.servers i ≡ Some view) (index term : ℕ)
-        (last : (s : Raft C) → Represents m view s → index ≡ length s.log) (own : (s : Raft C) → Represents m view s → term ≡ s.term) where
+        (last : (s : Raft C) → Refines m view s → index ≡ length s.log) (own : (s : Raft C) → Refines m view s → term ≡ s.term) where
       ticket_in : (past : List (World C)) (w : World C) → RunsTo m new past w → (s : Raft C) × (slice_get w.servers i ≡ Some s) × IsTicket s command index term
       ticket_in past w runs =
-          let st = runs.represents in
-          let t = zip_at (Represents m) new.servers w.servers i view st.servers here in
+          let st = runs.refines in
+          let t = zip_at (Refines m) new.servers w.servers i view st.servers here in
           let p = last_step (length new.servers) new.trace past w runs.run old.trace (Proposes i command) happened.trace in
           let q = taken_by p.0 w (slice_get p.0.servers i) refl p.1 in
           let is : t.0 ≡ extended q.0 command = same_Some t.0 (extended q.0 command) (sym t.1 ∙ q.1) in

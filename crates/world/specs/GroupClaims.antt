@@ -6,8 +6,8 @@ use Rattle.machine_model.specs.declared.entry.Entry.{Entry}
 use Rattle.raft_model.specs.Quorums.{Quorum}
 use Rattle.raft_safety.specs.Claims.{IsGreatestCommit}
 use Rattle.raft_progress.specs.Recovery.{AllUp, HasRoom, everybody}
-use Rattle.cluster_model.specs.Words.{State}
-use Rattle.cluster_model.specs.ClusterMachine.{cluster_meaning}
+use Rattle.fsm_model.specs.Words.{State}
+use Rattle.fsm_model.specs.ClusterMachine.{cluster_spec}
 use Rattle.group_model.specs.Inputs as inputs
 use Rattle.group_model.specs.Agents as agents
 use Rattle.group_model.specs.Worlds.{World, Event, Deliver, AtServer, AtClient, raft_of}
@@ -89,7 +89,7 @@ pub record GroupRecoversEver (view : GroupView) : Type 0 where
 -- the replicated state of server i of a world, after all that it has applied; none where there is no
 -- such server, or it is down
 abbrev pub state_of : World → ℕ → Option State
-state_of w i = machine_of cluster_meaning (raft_of w) i
+state_of w i = machine_of cluster_spec (raft_of w) i
 
 -- the greatest number of entries that any server had applied at some moment, in each of its runs
 abbrev pub IsGreatestEver : GroupView → ℕ → Type 0

@@ -4,8 +4,8 @@ use Rattle.std.specs.List.{AllZip}
 use Rattle.rows.specs.declared.allocation.AllocId.{AllocId}
 use Rattle.rows.specs.declared.refusal.Refusal.{Refusal}
 use Rattle.wire.specs.Frames.{Frame}
-use Rattle.cluster_model.specs.Words.{State}
-use Rattle.cluster_model.specs.ClusterMachine.{cluster_meaning}
+use Rattle.fsm_model.specs.Words.{State}
+use Rattle.fsm_model.specs.ClusterMachine.{cluster_spec}
 use Rattle.group_model.specs.Messages.{GroupMessage}
 use Rattle.group_model.specs.Worlds.{World}
 use Rattle.group_safety.specs.Deliveries.{deliveries}
@@ -59,7 +59,7 @@ started_in a = a.client.started
 -- frames carry messages, one for one, that deliver this
 pub record CarryDeliveries (frames : List Frame) (now : Visible) : Type 0 where
   pub messages : List GroupMessage
-  pub carried : AllZip (CarriesGroup cluster_meaning) frames messages
+  pub carried : AllZip (CarriesGroup cluster_spec) frames messages
   pub delivered : now.delivered ≡ deliveries messages
 
 -- whatever the group has shown, moment by moment, is what the specification shows

@@ -14,13 +14,13 @@ use Rattle.group_model.specs.Servers.{Server}
 use Rattle.group_model.specs.Worlds.{World, Event, Deliver, AtServer, AtClient, first, happens, crash_of, client_at, IsRestart, Trace, moment}
 use Rattle.client_agent.specs.Refusals.{RunsIn}
 use Rattle.server.specs.ServerViews.{SameServer}
-use Rattle.server.specs.Refusals.{MayTakeMemory}
+use Rattle.server.specs.Refusals.{OutOfMemoryMayEnd}
 use Rattle.world.specs.declared.done.Done.{Done}
 use Rattle.world.specs.declared.done.Done.TheVariants.{Taken, Crashed}
 use Rattle.rows.specs.GroupSizes.{IsGroup}
 use Rattle.world.specs.GroupWork.{work_of, works}
-use Rattle.world.specs.GroupView.{GroupView, RepresentsGroup, GroupRunsTo, IsGroupWorld, nodes_of, renumbered}
-use Rattle.world.specs.Steps.{EachBecame, Lacked}
+use Rattle.world.specs.GroupView.{GroupView, RefinesGroup, GroupRunsTo, GroupInvariant, nodes_of, renumbered}
+use Rattle.world.specs.Steps.{EachBecame, WasOutOfMemory}
 
 -- The event happens in each world that `old` represents, and makes it one that `new` represents;
 -- what its server's workers get is put behind what is not fetched yet. Each run of the old value
@@ -29,9 +29,9 @@ pub record GroupEventHappened (old : GroupView) (e : Event) (new : GroupView) : 
   pub size : length new.servers ≡ length old.servers
   pub nodes : nodes_of new ≡ nodes_of old
   pub trace : new.trace ≡ old.trace ++ e ∷ []
-  pub work : (w : World) → RepresentsGroup old w → new.outbox.work ≡ old.outbox.work ++ work_of w e
-  pub worlds : (w : World) → RepresentsGroup old w →
-      (next : World) × (happens w e ≡ Ok next) × RepresentsGroup new next
+  pub work : (w : World) → RefinesGroup old w → new.outbox.work ≡ old.outbox.work ++ work_of w e
+  pub worlds : (w : World) → RefinesGroup old w →
+      (next : World) × (happens w e ≡ Ok next) × RefinesGroup new next
   pub runs : (past : List World) (w : World) → GroupRunsTo old past w →
       (next : World) × (happens w e ≡ Ok next) × GroupRunsTo new (past ++ w ∷ []) next
 
@@ -43,29 +43,29 @@ RunsThere (Some x) id = RunsIn x.life id
 -- In this world the event may want memory: what comes may, but not as an input of an actor's own; a
 -- server's own input as that says; of a client's own one that goes to a server of the group, and
 -- the end of an allocation that runs there.
-abbrev pub MayWantAt : World → Event → Type 0
-MayWantAt w (Deliver k) = Unit {0}
-MayWantAt w (AtServer i (inputs.Arrives message)) = ⊥
-MayWantAt w (AtServer i input) =
-    (s : Server) → slice_get w.servers i ≡ Some s → MayTakeMemory (length w.servers) s input
-MayWantAt w (AtClient c (agents.RegisterAt server)) = server < length w.servers
-MayWantAt w (AtClient c (agents.Ping server)) = server < length w.servers
-MayWantAt w (AtClient c (agents.PullFrom server)) = server < length w.servers
-MayWantAt w (AtClient c (agents.End id ok)) = RunsThere (client_at w.clients c) id
-MayWantAt w (AtClient c _) = ⊥
+abbrev pub OutOfMemoryMayEndAt : World → Event → Type 0
+OutOfMemoryMayEndAt w (Deliver k) = Unit {0}
+OutOfMemoryMayEndAt w (AtServer i (inputs.Arrives message)) = ⊥
+OutOfMemoryMayEndAt w (AtServer i input) =
+    (s : Server) → slice_get w.servers i ≡ Some s → OutOfMemoryMayEnd (length w.servers) s input
+OutOfMemoryMayEndAt w (AtClient c (agents.RegisterAt server)) = server < length w.servers
+OutOfMemoryMayEndAt w (AtClient c (agents.Ping server)) = server < length w.servers
+OutOfMemoryMayEndAt w (AtClient c (agents.PullFrom server)) = server < length w.servers
+OutOfMemoryMayEndAt w (AtClient c (agents.End id ok)) = RunsThere (client_at w.clients c) id
+OutOfMemoryMayEndAt w (AtClient c _) = ⊥
 
 -- the event's actor found no memory, and crashes in its place
 pub record GroupActorCrashed (old : GroupView) (e : Event) (new : GroupView) : Type 0 where
   pub crash : Event
-  pub actor : (w : World) → RepresentsGroup old w → crash_of w e ≡ Some crash
-  pub lacking : (w : World) → RepresentsGroup old w → MayWantAt w e
+  pub actor : (w : World) → RefinesGroup old w → crash_of w e ≡ Some crash
+  pub lacking : (w : World) → RefinesGroup old w → OutOfMemoryMayEndAt w e
   pub happened : GroupEventHappened old crash new
 
 -- a restart that could be, of an actor that finds no memory: it stays down
 pub record GroupStaysDown (old : GroupView) (e : Event) (new : GroupView) : Type 0 where
   pub restart : IsRestart e
-  pub lacking : (w : World) → RepresentsGroup old w → MayWantAt w e
-  pub could : (w : World) → RepresentsGroup old w → (next : World) × (happens w e ≡ Ok next)
+  pub lacking : (w : World) → RefinesGroup old w → OutOfMemoryMayEndAt w e
+  pub could : (w : World) → RefinesGroup old w → (next : World) × (happens w e ≡ Ok next)
   pub same : new ≡ old
 
 -- what became of an event that was not refused
@@ -120,22 +120,22 @@ pub record IsNewGroup (n : ℕ) (nodes : List NodeSpec) (view : GroupView) : Typ
   pub trace : view.trace ≡ []
   pub chain : view.chain ≡ 0
   pub work : view.outbox.work ≡ []
-  pub represents : RepresentsGroup view (first n (nodes_of view))
+  pub refines : RefinesGroup view (first n (nodes_of view))
 
 -- why there is no group: its size, too many nodes, or want of memory
 abbrev pub WhyNoGroup : ℕ → List NodeSpec → Refusal → Type 0
 WhyNoGroup n nodes r = (r ≡ refusals.NoMemory) ⊎ ((r ≡ refusals.OutOfRange) × (IsGroup n → length nodes ≤ 64 → ⊥))
 
 -- At this moment of the run the event might want memory.
-pub record MightWant (past : List World) (w : World) (place : ℕ) (e : Event) : Type 0 where
+pub record WasOutOfMemoryAllowed (past : List World) (w : World) (place : ℕ) (e : Event) : Type 0 where
   pub before : World
   pub before_is : moment past w place ≡ Some before
-  pub lacking : MayWantAt before e
+  pub lacking : OutOfMemoryMayEndAt before e
 
 -- In place of this event its actor's crash stands at this place of the trace, and the event might
 -- want memory then.
-pub record GroupStarved (trace : List Event) (past : List World) (w : World) (place : ℕ) (e : Event) : Type 0 where
-  pub due : MightWant past w place e
+pub record GroupOutOfMemoryCrash (trace : List Event) (past : List World) (w : World) (place : ℕ) (e : Event) : Type 0 where
+  pub due : WasOutOfMemoryAllowed past w place e
   pub crash : Event
   pub crash_is : slice_get trace place ≡ Some crash
   pub of : crash_of due.before e ≡ Some crash
@@ -144,8 +144,8 @@ pub record GroupStarved (trace : List Event) (past : List World) (w : World) (pl
 -- there it was left out for want of memory.
 abbrev pub GroupMayBecome : List Event → List World → World → ℕ → Event → Outcome → Type 0
 GroupMayBecome trace past w place e Kept = Unit {0}
-GroupMayBecome trace past w place e OutcomeCrashed = GroupStarved trace past w place e
-GroupMayBecome trace past w place e (LeftOut r) = r ≡ refusals.NoMemory → MightWant past w place e
+GroupMayBecome trace past w place e OutcomeCrashed = GroupOutOfMemoryCrash trace past w place e
+GroupMayBecome trace past w place e (LeftOut r) = r ≡ refusals.NoMemory → WasOutOfMemoryAllowed past w place e
 
 -- The value's trace is that of the events handed in: each was kept, was replaced by its actor's
 -- crash, for want of memory, or was left out. What workers got by all of them is there to be
@@ -167,7 +167,7 @@ pub record GroupPlayedShort (n : ℕ) (nodes : List NodeSpec) (handed : List Eve
   pub place : ℕ
   pub outcome : Outcome
   pub at : slice_get played.outcomes place ≡ Some outcome
-  pub lacked : Lacked outcome
+  pub lacked : WasOutOfMemory outcome
 
 -- two values of one run: it leads to the same servers, clients, messages and chain
 pub record SameGroupRun (one other : GroupView) : Type 0 where
@@ -178,4 +178,4 @@ pub record SameGroupRun (one other : GroupView) : Type 0 where
 -- A value of this trace, this many servers and these nodes comes again from its trace, unless
 -- memory was wanting for one of the events.
 abbrev pub GroupReplays : ℕ → List NodeSpec → List Event → GroupView → Type 0
-GroupReplays n nodes handed view = (old : GroupView) → IsGroupWorld old → length old.servers ≡ n → nodes_of old ≡ renumbered 1 nodes → old.trace ≡ handed → SameGroupRun old view ⊎ GroupPlayedShort n nodes handed view
+GroupReplays n nodes handed view = (old : GroupView) → GroupInvariant old → length old.servers ≡ n → nodes_of old ≡ renumbered 1 nodes → old.trace ≡ handed → SameGroupRun old view ⊎ GroupPlayedShort n nodes handed view

@@ -3,7 +3,7 @@
 use Rattle.std.specs.Prelude.{◌≡◌, ℕ, List, length}
 use Rattle.rows.specs.declared.command.Command.{Command}
 use Rattle.machine_model.specs.declared.entry.Entry.{Entry}
-use Rattle.raft_safety.specs.Tickets.{Settled}
+use Rattle.raft_safety.specs.Tickets.{Committed}
 use Rattle.group_model.specs.Worlds.{World, raft_of}
 use Rattle.group_safety.specs.Claims.{OneList, logs}
 use Rattle.world.specs.GroupView.{GroupView, GroupRunsTo}
@@ -12,7 +12,7 @@ use Rattle.world.specs.GroupView.{GroupView, GroupRunsTo}
 -- At this index it has an entry whose term is such, and in each of its runs that is settled: no
 -- other command ever stood there in that term, in any log, and however the run goes on, its list has
 -- this entry there.
-pub record SettledInGroup (view : GroupView) (index : ℕ) (IsSuch : ℕ → Type 0) : Type 0 where
+pub record CommittedInGroup (view : GroupView) (index : ℕ) (IsSuch : ℕ → Type 0) : Type 0 where
   pub past : List World
   pub world : World
   pub runs : GroupRunsTo view past world
@@ -21,4 +21,4 @@ pub record SettledInGroup (view : GroupView) (index : ℕ) (IsSuch : ℕ → Typ
   pub ever : (past : List World) (w : World) → GroupRunsTo view past w → OneList past w list
   pub entry : Entry Command
   pub of : IsSuch entry.term
-  pub settled : (past : List World) (w : World) → GroupRunsTo view past w → Settled (logs past) (raft_of w) list index entry
+  pub settled : (past : List World) (w : World) → GroupRunsTo view past w → Committed (logs past) (raft_of w) list index entry

@@ -6,7 +6,7 @@ use Rattle.rows.specs.declared.actor.Actor.{Actor}
 use Rattle.rows.specs.declared.node.NodeSpec.{NodeSpec}
 use Rattle.wire.specs.Frames.{Frame}
 use Rattle.raft_safety.specs.Claims.{IsGreatestCommit}
-use Rattle.cluster_model.specs.ClusterMachine.{cluster_meaning}
+use Rattle.fsm_model.specs.ClusterMachine.{cluster_spec}
 use Rattle.group_model.specs.Agents.{Agent}
 use Rattle.group_model.specs.Worlds.{World, Event, raft_of}
 use Rattle.group_safety.specs.Claims.{logs}
@@ -14,7 +14,7 @@ use Rattle.group_safety.specs.Limits.{NodesFit, LimitedRun}
 use Rattle.group_frames.specs.GroupFrames.{CarriesGroup}
 use Rattle.client_agent.specs.AgentView.{AgentView}
 use Rattle.server.specs.declared.server.Outbox.{Outbox}
-use Rattle.server.specs.ServerViews.{ServerView, IsServer}
+use Rattle.server.specs.ServerViews.{ServerView, RefinesServer}
 use Rattle.rows.specs.GroupSizes.{IsGroup}
 
 -- the servers, the clients, all frames that were ever sent with what came for workers and was not
@@ -43,17 +43,17 @@ renumbered k (node ∷ nodes) = record node { number = k } ∷ renumbered (suc k
 
 -- its servers and clients are those of the world, and its frames carry the messages there, one for
 -- one
-pub record RepresentsGroup (view : GroupView) (w : World) : Type 0 where
-  pub servers : AllZip IsServer view.servers w.servers
+pub record RefinesGroup (view : GroupView) (w : World) : Type 0 where
+  pub servers : AllZip RefinesServer view.servers w.servers
   pub clients : map client_in view.clients ≡ w.clients
-  pub sent : AllZip (CarriesGroup cluster_meaning) view.outbox.frames w.sent
+  pub sent : AllZip (CarriesGroup cluster_spec) view.outbox.frames w.sent
 
 -- The trace is that of a run through the worlds `past` to w, which the value represents, its inputs
 -- are within their limits, and `chain` is the greatest number of entries that any server had
 -- committed at some moment of it.
 pub record GroupRunsTo (view : GroupView) (past : List World) (w : World) : Type 0 where
   pub run : LimitedRun (length view.servers) (nodes_of view) view.trace past w
-  pub represents : RepresentsGroup view w
+  pub refines : RefinesGroup view w
   pub chain : IsGreatestCommit (logs past) (raft_of w) view.chain
 
 -- each server knows its number and the size of the group
@@ -65,7 +65,7 @@ abbrev pub ClientsKnowNumbers : GroupView → Type 0
 ClientsKnowNumbers view = (i : ℕ) (a : AgentView) → slice_get view.clients i ≡ Some a → (a.client.node.number ≡ suc i) × (a.size ≡ length view.servers)
 
 -- what every group keeps
-pub record IsGroupWorld (view : GroupView) : Type 0 where
+pub record GroupInvariant (view : GroupView) : Type 0 where
   pub past : List World
   pub world : World
   pub runs : GroupRunsTo view past world

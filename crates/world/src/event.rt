@@ -34,7 +34,7 @@ impl<M: Machine> RaftEvent<M> {
     /// The same event.
     pub(crate) fn again(&self, alloc: Global) -> Result<RaftEvent<M>, NoMemory>
         ensures { IfOk result (λ again. (world_event again ≡ world_event self.now)
-            × IsEvent M.meaning (world_event again)) }
+            × IsEvent M.spec (world_event again)) }
     {
         match self {
             RaftEvent::Deliver(k) => Ok(RaftEvent::Deliver(*k)),

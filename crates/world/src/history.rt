@@ -1,7 +1,7 @@
 //! What is kept beside the servers of a group, and what one event changes.
 ghost use Rattle.std.specs.Prelude.{◌≡◌, max, []};
 ghost use Rattle.raft_model.specs.Rafts.{Raft as AnyRaft};
-ghost use Rattle.raft_core.specs.Steps.{Represents};
+ghost use Rattle.raft_core.specs.Steps.{Refines};
 ghost use Rattle.world.specs.Events.{world_event, world_events};
 ghost use Rattle.world.specs.Inner.Inputs.{committed};
 ghost use Rattle.world.specs.Inner.Parts.{IsForServer, PartDone};
@@ -39,7 +39,7 @@ impl<M: Machine> Model for History<M> {
 
 /// The greater of the chain so far and what a server has applied.
 fn longer<M: Machine>(chain: Index, raft: &Raft<M>) -> Index
-    ensures { (s : AnyRaft M.Command) → Represents M.meaning raft.now s →
+    ensures { (s : AnyRaft M.Command) → Refines M.spec raft.now s →
         result ≡ max chain (committed s) }
 {
     match raft.applied() {
@@ -82,15 +82,15 @@ impl<M: Machine> History<M> {
 
     /// A server takes an event, and what it sends is put behind what was sent. Where it finds no
     /// memory, its crash is kept instead; where there is none to keep the event, nothing happens.
-    pub(crate) fn take(
+    pub(crate) fn hand_event(
         &mut self,
         raft: &mut Raft<M>,
         server: ServerId,
         event: RaftEvent<M>,
     ) -> Result<Done, Refusal>
-        requires { IsForServer M.meaning raft.old self.old.sent (world_event event) }
+        requires { IsForServer M.spec raft.old self.old.sent (world_event event) }
         ensures same { (raft.new.me ≡ raft.old.me) × (raft.new.size ≡ raft.old.size) }
-        ensures done { PartDone M.meaning raft.old self.old (world_event event) server result
+        ensures done { PartDone M.spec raft.old self.old (world_event event) server result
             raft.new self.new }
     {
         self.trace.reserve(1)?;

@@ -5,7 +5,7 @@ ghost use Rattle.raft_model.specs.Rafts.{Raft as AnyRaft};
 ghost use Rattle.raft_model.specs.Steps.{Propose};
 ghost use Rattle.raft_model.specs.Worlds.{Deliver};
 ghost use Rattle.raft_core.specs.Inputs.{Own};
-ghost use Rattle.raft_core.specs.Steps.{Represents, Takes};
+ghost use Rattle.raft_core.specs.Steps.{Refines, Takes};
 ghost use Rattle.raft_core.specs.Refusals.{IsRefused};
 ghost use Rattle.group_inputs.specs.Events.{position_of};
 ghost use Rattle.world.specs.Events.{world_event};
@@ -30,10 +30,10 @@ fn frame_at(sent: &Frames, k: u64) -> Option<Frame<'_>>
 
 /// The server that is to receive the k-th message; none where there is no such message.
 fn receiver<M: Machine>(sent: &Frames, k: u64) -> Option<ServerId>
-    ensures some { IfSome result (λ i. ActsIn M.meaning sent.now (Deliver (position_of k)) i) }
+    ensures some { IfSome result (λ i. ActsIn M.spec sent.now (Deliver (position_of k)) i) }
     ensures sent { OnSome result (IsSent {C = M.Command} sent.now (Deliver (position_of k))) }
     ensures none { IfNone result
-        (NobodyActsIn M.meaning sent.now (Deliver (position_of k)) refusals.OutOfRange) }
+        (NobodyActsIn M.spec sent.now (Deliver (position_of k)) refusals.OutOfRange) }
 {
     match frame_at(sent, k)?.to() {
         Actor::Server(server) => Some(server),
@@ -43,10 +43,10 @@ fn receiver<M: Machine>(sent: &Frames, k: u64) -> Option<ServerId>
 
 /// The server that takes the event; none where there is no such message.
 pub(crate) fn actor<M: Machine>(sent: &Frames, event: &RaftEvent<M>) -> Option<ServerId>
-    ensures some { IfSome result (λ i. ActsIn M.meaning sent.now (world_event event.now) i) }
+    ensures some { IfSome result (λ i. ActsIn M.spec sent.now (world_event event.now) i) }
     ensures sent { OnSome result (IsSent sent.now (world_event event.now)) }
     ensures none { IfNone result
-        (NobodyActsIn M.meaning sent.now (world_event event.now) refusals.OutOfRange) }
+        (NobodyActsIn M.spec sent.now (world_event event.now) refusals.OutOfRange) }
 {
     match event {
         RaftEvent::Deliver(k) => receiver::<M>(sent, *k),
@@ -64,14 +64,14 @@ pub(crate) fn actor<M: Machine>(sent: &Frames, event: &RaftEvent<M>) -> Option<S
 fn propose<M: Machine>(raft: &mut Raft<M>, command: M::Command) -> Result<(), Refusal>
     ensures same { (raft.new.me ≡ raft.old.me) × (raft.new.size ≡ raft.old.size) }
     ensures taken { OnOk result ((s : AnyRaft M.Command) (sent : List Frame) →
-        Represents M.meaning raft.old s →
-        Takes M.meaning raft.old s (Own (Propose command)) raft.new sent sent) }
+        Refines M.spec raft.old s →
+        Takes M.spec raft.old s (Own (Propose command)) raft.new sent sent) }
     ensures refused { IfErr result (λ cause. (s : AnyRaft M.Command) →
-        Represents M.meaning raft.old s →
-        IsRefused M.meaning raft.old.size raft.old.me s (Own (Propose command)) cause) }
+        Refines M.spec raft.old s →
+        IsRefused M.spec raft.old.size raft.old.me s (Own (Propose command)) cause) }
     ensures left { IfErr result (λ cause. (s : AnyRaft M.Command) →
-        Represents M.meaning raft.old s →
-        Leaves M.meaning raft.old s (Own (Propose command)) cause raft.new) }
+        Refines M.spec raft.old s →
+        Leaves M.spec raft.old s (Own (Propose command)) cause raft.new) }
     ensures stays { IfErr result (λ cause.
         StaysOrLeft (Own (Propose command)) cause raft.old raft.new) }
 {
@@ -122,17 +122,17 @@ pub(crate) fn hand<M: Machine>(
 ) -> Result<(), Refusal>
     requires { HasFrame sent.old (world_event event) frame.now }
     ensures same { (raft.new.me ≡ raft.old.me) × (raft.new.size ≡ raft.old.size) }
-    ensures taken { OnOk result ((s : AnyRaft M.Command) → Represents M.meaning raft.old s →
-        Takes M.meaning raft.old s (handed_by sent.old (world_event event)) raft.new sent.old
+    ensures taken { OnOk result ((s : AnyRaft M.Command) → Refines M.spec raft.old s →
+        Takes M.spec raft.old s (handed_by sent.old (world_event event)) raft.new sent.old
         sent.new) }
     ensures unsent { OnErr result (sent.new ≡ sent.old) }
     ensures refused { IfErr result (λ cause. (s : AnyRaft M.Command) →
-        Represents M.meaning raft.old s →
-        IsRefused M.meaning raft.old.size raft.old.me s (handed_by sent.old (world_event event))
+        Refines M.spec raft.old s →
+        IsRefused M.spec raft.old.size raft.old.me s (handed_by sent.old (world_event event))
         cause) }
     ensures left { IfErr result (λ cause. (s : AnyRaft M.Command) →
-        Represents M.meaning raft.old s →
-        Leaves M.meaning raft.old s (handed_by sent.old (world_event event)) cause raft.new) }
+        Refines M.spec raft.old s →
+        Leaves M.spec raft.old s (handed_by sent.old (world_event event)) cause raft.new) }
     ensures stays { IfErr result (λ cause.
         StaysOrLeft (handed_by sent.old (world_event event)) cause raft.old raft.new) }
 {

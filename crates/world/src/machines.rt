@@ -14,9 +14,9 @@ impl<M: Machine> RaftWorld<M> {
     /// group has no such server, or it is down. The state is safe, whatever happened.
     pub fn machine(&self, server: ServerId) -> Option<&M>
         ensures value { (past : List (World M.Command)) (w : World M.Command) →
-            RunsTo M.meaning self.now past w →
-            option_copied result ≡ machine_of M.meaning w server }
-        ensures safe { IfSome result (λ machine. M.meaning.safe machine.now) }
+            RunsTo M.spec self.now past w →
+            option_copied result ≡ machine_of M.spec w server }
+        ensures safe { IfSome result (λ machine. M.spec.safe machine.now) }
     {
         self.one_list();
         self.safe_states();
@@ -27,11 +27,11 @@ impl<M: Machine> RaftWorld<M> {
     /// the beginning of what the other has.
     pub fn machines(&self, one: ServerId, other: ServerId) -> Option<(&M, &M)>
         ensures value { (past : List (World M.Command)) (w : World M.Command) →
-            RunsTo M.meaning self.now past w →
-            MatchOption result ((machine_of M.meaning w one ≡ None) ⊎ (machine_of M.meaning w other ≡ None))
-            (λ pair. (machine_of M.meaning w one ≡ Some pair.0.now)
-            × (machine_of M.meaning w other ≡ Some pair.1.now)) }
-        ensures history { IfSome result (λ pair. OneHistory M.meaning pair.0.now pair.1.now) }
+            RunsTo M.spec self.now past w →
+            MatchOption result ((machine_of M.spec w one ≡ None) ⊎ (machine_of M.spec w other ≡ None))
+            (λ pair. (machine_of M.spec w one ≡ Some pair.0.now)
+            × (machine_of M.spec w other ≡ Some pair.1.now)) }
+        ensures history { IfSome result (λ pair. OneHistory M.spec pair.0.now pair.1.now) }
     {
         self.one_list();
         Some((self.machine(one)?, self.machine(other)?))

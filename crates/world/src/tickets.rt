@@ -3,17 +3,17 @@
 ghost use Rattle.std.specs.Prelude.{◌≡◌, ◌≢◌, ◌≤◌, Some, List, IfOk, IfErr, IfSome, OnErr};
 ghost use Rattle.rows.specs.declared.refusal.Refusal.TheVariants as refusals;
 ghost use Rattle.raft_model.specs.Worlds.{World, Proposes};
-ghost use Rattle.raft_core.specs.declared.ticket.Standing.TheVariants as standings;
+ghost use Rattle.raft_core.specs.declared.ticket.ProposalStatus.TheVariants as statuses;
 ghost use Rattle.world.specs.WorldView.{RunsTo};
 ghost use Rattle.world.specs.Steps.{WasDone, SameWorld, RefusesEvent, IsAwake};
-ghost use Rattle.world.specs.Tickets.{done_by, standing_in, TicketNow, StoodEver, SettledEver};
+ghost use Rattle.world.specs.Tickets.{done_by, proposal_status_in, TicketNow, StoodEver, CommittedEver};
 
 use crate::done::Done;
 use crate::event::RaftEvent;
 use crate::world::RaftWorld;
 use machine::Machine;
-use raft_core::{Standing, Ticket};
-use raft_safety::committed_is_settled;
+use raft_core::{ProposalStatus, Ticket};
+use raft_safety::commit_is_final;
 use rows::{Refusal, ServerId};
 
 impl<M: Machine> RaftWorld<M> {
@@ -21,24 +21,24 @@ impl<M: Machine> RaftWorld<M> {
     /// none where the server found no memory, and crashed. It is the event `Propose`, refused as
     /// `step` refuses that.
     ///
-    /// Whether the command comes to be applied is known later: ask `standing` of any server.
+    /// Whether the command comes to be applied is known later: ask `proposal_status` of any server.
     pub fn propose(
         &mut self,
         server: ServerId,
         command: Box<M::Command>,
     ) -> Result<Option<Ticket>, Refusal>
-        ensures ok { IfOk result (λ ticket. WasDone M.meaning self.old
+        ensures ok { IfOk result (λ ticket. WasDone M.spec self.old
             (Proposes server command.value) (done_by ticket) self.new) }
         // It is the last entry of the server's log, in the server's own term.
         ensures ticket { IfOk result (λ ticket. IfSome ticket (λ t.
-            TicketNow M.meaning self.new server command.value t.index t.term)) }
+            TicketNow M.spec self.new server command.value t.index t.term)) }
         ensures stood { IfOk result (λ ticket. IfSome ticket (λ t.
-            StoodEver M.meaning self.new t.index t.term command.value)) }
+            StoodEver M.spec self.new t.index t.term command.value)) }
         ensures err { OnErr result (SameWorld self.old self.new) }
         ensures cause { IfErr result (λ refusal. refusal ≢ refusals.NoMemory →
-            RefusesEvent M.meaning self.old (Proposes server command.value) refusal) }
+            RefusesEvent M.spec self.old (Proposes server command.value) refusal) }
         ensures memory { IfErr result (λ refusal. refusal ≡ refusals.NoMemory →
-            IsAwake M.meaning self.old (Proposes server command.value)) }
+            IsAwake M.spec self.old (Proposes server command.value)) }
     {
         match self.step(RaftEvent::Propose(server, command)) {
             Err(refusal) => Err(refusal),
@@ -58,25 +58,25 @@ impl<M: Machine> RaftWorld<M> {
     /// What a server knows of a command by its ticket; none where the group has no such server, or
     /// it is down.
     ///
-    /// - `Settled`: the one list has the command at that index for good, since no other command ever
+    /// - `Committed`: the one list has the command at that index for good, since no other command ever
     ///   stood there in that term.
-    /// - `Lost`: the one list has another entry there for good, of another term, so that the command
+    /// - `Superseded`: the one list has another entry there for good, of another term, so that the command
     ///   never comes to be applied by this proposal.
-    /// - `Covered`: the one list has an entry there for good, and the server has applied it. Its
+    /// - `Compacted`: the one list has an entry there for good, and the server has applied it. Its
     ///   snapshot covers it, so which one that is it does not know; another server may.
-    pub fn standing(&self, server: ServerId, ticket: Ticket) -> Option<Standing>
+    pub fn proposal_status(&self, server: ServerId, ticket: Ticket) -> Option<ProposalStatus>
         ensures value { (past : List (World M.Command)) (w : World M.Command) →
-            RunsTo M.meaning self.now past w →
-            result ≡ standing_in w server ticket.index ticket.term }
-        ensures settled { result ≡ Some standings.Settled →
-            SettledEver M.meaning self.now ticket.index (λ t. t ≡ ticket.term) }
-        ensures lost { result ≡ Some standings.Lost →
-            SettledEver M.meaning self.now ticket.index (λ t. t ≢ ticket.term) }
-        ensures covered { result ≡ Some standings.Covered → 1 ≤ ticket.index →
-            SettledEver M.meaning self.now ticket.index (λ t. Unit {0}) }
+            RunsTo M.spec self.now past w →
+            result ≡ proposal_status_in w server ticket.index ticket.term }
+        ensures settled { result ≡ Some statuses.Committed →
+            CommittedEver M.spec self.now ticket.index (λ t. t ≡ ticket.term) }
+        ensures lost { result ≡ Some statuses.Superseded →
+            CommittedEver M.spec self.now ticket.index (λ t. t ≢ ticket.term) }
+        ensures covered { result ≡ Some statuses.Compacted → 1 ≤ ticket.index →
+            CommittedEver M.spec self.now ticket.index (λ t. Unit {0}) }
     {
         self.one_list();
-        committed_is_settled::<M>();
-        self.raft(server)?.standing(ticket)
+        commit_is_final::<M>();
+        self.raft(server)?.proposal_status(ticket)
     }
 }

@@ -4,7 +4,7 @@ ghost use Rattle.rows.specs.declared.refusal.Refusal.TheVariants as refusals;
 ghost use Rattle.raft_model.specs.Logs.{MAX};
 ghost use Rattle.raft_model.specs.Rafts.{newcomer};
 ghost use Rattle.raft_model.specs.Worlds.{World};
-ghost use Rattle.raft_core.specs.Steps.{Represents, IsGroupMember};
+ghost use Rattle.raft_core.specs.Steps.{Refines, IsGroupMember};
 ghost use Rattle.raft_safety.specs.Claims.{IsGreatestCommit};
 ghost use Rattle.raft_progress.specs.Recovery.{HasRoom, everybody};
 ghost use Rattle.world.specs.Events.{world_event, world_events};
@@ -44,14 +44,14 @@ impl<M: Machine> Model for RaftWorld<M> {
 
     ghost view = { λ a. record { servers = a.servers.items; sent = a.history.sent; trace = a.history.trace; chain = a.history.chain } };
 
-    ghost invariant = { λ a. IsRaftWorld M.meaning (record { servers = a.servers.items; sent = a.history.sent; trace = a.history.trace; chain = a.history.chain }) };
+    ghost invariant = { λ a. IsRaftWorld M.spec (record { servers = a.servers.items; sent = a.history.sent; trace = a.history.trace; chain = a.history.chain }) };
 }
 
 /// The server at this place, before its first input.
 fn newcomer<M: Machine>(alloc: Global, position: usize, n: usize) -> Result<Raft<M>, NoMemory>
     requires { IsGroupMember n position }
     ensures number { IfOk result (λ r. (r.me ≡ position) × (r.size ≡ n)) }
-    ensures server { IfOk result (λ r. Represents M.meaning r newcomer) }
+    ensures server { IfOk result (λ r. Refines M.spec r newcomer) }
 {
     let Some(me) = ServerId::from_position(position) else {
         unreachable!()
@@ -65,7 +65,7 @@ fn newcomer<M: Machine>(alloc: Global, position: usize, n: usize) -> Result<Raft
     }
 }
 
-fn lacks_memory(done: &Result<Done, Refusal>) -> bool
+fn is_out_of_memory(done: &Result<Done, Refusal>) -> bool
     ensures { MatchBool result (done.now ≡ Err refusals.NoMemory)
         (done.now ≢ Err refusals.NoMemory) }
 {
@@ -78,35 +78,35 @@ fn lacks_memory(done: &Result<Done, Refusal>) -> bool
 
 impl<M: Machine> RaftWorld<M> {
     /// A server takes an event.
-    fn act(&mut self, server: ServerId, event: RaftEvent<M>) -> Result<Done, Refusal>
-        requires actor { ActsIn M.meaning self.old.sent (world_event event) server }
+    fn hand_event(&mut self, server: ServerId, event: RaftEvent<M>) -> Result<Done, Refusal>
+        requires actor { ActsIn M.spec self.old.sent (world_event event) server }
         requires sent { IsSent self.old.sent (world_event event) }
         requires member { server < length self.old.servers }
-        requires awake { IsAwake M.meaning self.old (world_event event) }
+        requires awake { IsAwake M.spec self.old (world_event event) }
         ensures ok { IfOk result (λ done.
-            WasDone M.meaning self.old (world_event event) done self.new) }
+            WasDone M.spec self.old (world_event event) done self.new) }
         ensures err { OnErr result (SameWorld self.old self.new) }
         ensures cause { IfErr result (λ refusal. refusal ≢ refusals.NoMemory →
-            RefusesEvent M.meaning self.old (world_event event) refusal) }
+            RefusesEvent M.spec self.old (world_event event) refusal) }
         ensures memory { IfErr result (λ refusal. refusal ≡ refusals.NoMemory →
-            IsAwake M.meaning self.old (world_event event)) }
+            IsAwake M.spec self.old (world_event event)) }
     {
         // A frame that a server of the group sent is not refused for its bytes.
         frames_are_whole::<M>();
         within_limits::<M>();
         let raft = &mut self.servers[server.position()];
-        self.history.take(raft, server, event)
+        self.history.hand_event(raft, server, event)
     }
 
     /// An event happens, if its actor is there and up.
-    fn take(&mut self, event: RaftEvent<M>) -> Result<Done, Refusal>
+    fn happen(&mut self, event: RaftEvent<M>) -> Result<Done, Refusal>
         ensures ok { IfOk result (λ done.
-            WasDone M.meaning self.old (world_event event) done self.new) }
+            WasDone M.spec self.old (world_event event) done self.new) }
         ensures err { OnErr result (SameWorld self.old self.new) }
         ensures cause { IfErr result (λ refusal. refusal ≢ refusals.NoMemory →
-            RefusesEvent M.meaning self.old (world_event event) refusal) }
+            RefusesEvent M.spec self.old (world_event event) refusal) }
         ensures memory { IfErr result (λ refusal. refusal ≡ refusals.NoMemory →
-            IsAwake M.meaning self.old (world_event event)) }
+            IsAwake M.spec self.old (world_event event)) }
     {
         let Some(server) = actor(self.sent(), &event) else {
             return Err(Refusal::OutOfRange);
@@ -117,7 +117,7 @@ impl<M: Machine> RaftWorld<M> {
         if raft.role().is_none() && !event.is_restart() {
             return Err(Refusal::Down);
         }
-        self.act(server, event)
+        self.hand_event(server, event)
     }
 
     /// One event happens.
@@ -134,28 +134,28 @@ impl<M: Machine> RaftWorld<M> {
         // It is a step of the definitions; or the event's actor crashed for want of memory, in a
         // restart with nothing changed.
         ensures ok { IfOk result (λ done.
-            WasDone M.meaning self.old (world_event event) done self.new) }
+            WasDone M.spec self.old (world_event event) done self.new) }
         ensures err { OnErr result (SameWorld self.old self.new) }
         // The definitions refuse it too, for the same reason.
         ensures cause { IfErr result (λ refusal. refusal ≢ refusals.NoMemory →
-            RefusesEvent M.meaning self.old (world_event event) refusal) }
+            RefusesEvent M.spec self.old (world_event event) refusal) }
         // Want of memory is not answered where no server takes the event.
         ensures memory { IfErr result (λ refusal. refusal ≡ refusals.NoMemory →
-            IsAwake M.meaning self.old (world_event event)) }
+            IsAwake M.spec self.old (world_event event)) }
         // And these hold whatever happened so far, whether or not this event was refused.
-        ensures one_leader { OneLeaderEver M.meaning self.new }
-        ensures log_matching { LogsMatchEver M.meaning self.new }
-        ensures one_list { OneListEver M.meaning self.new }
-        ensures safe_states { StatesSafeEver M.meaning self.new }
-        ensures recovers { RecoversEver M.meaning self.new }
+        ensures one_leader { OneLeaderEver M.spec self.new }
+        ensures log_matching { LogsMatchEver M.spec self.new }
+        ensures one_list { OneListEver M.spec self.new }
+        ensures safe_states { StatesSafeEver M.spec self.new }
+        ensures recovers { RecoversEver M.spec self.new }
         ensures size { IsGroup (length self.new.servers) }
         // What stood under a ticket stood there.
         ensures stood { (index term : ℕ) (command : M.Command) →
-            StoodEver M.meaning self.old index term command →
-            StoodEver M.meaning self.new index term command }
+            StoodEver M.spec self.old index term command →
+            StoodEver M.spec self.new index term command }
     {
-        let done = self.take(event);
-        self.group_size();
+        let done = self.happen(event);
+        self.size_is_3_or_5();
         self.one_leader();
         self.log_matching();
         self.one_list();
@@ -167,7 +167,7 @@ impl<M: Machine> RaftWorld<M> {
     /// A group of `n` servers before its first event: followers in term 0 with empty logs. It is
     /// refused with `OutOfRange` where `n` is not 3 or 5, and with `NoMemory`.
     pub fn new(alloc: Global, n: usize) -> Result<RaftWorld<M>, Refusal>
-        ensures ok { IfOk result (λ w. IsNew M.meaning n w) }
+        ensures ok { IfOk result (λ w. IsNew M.spec n w) }
         ensures refused { IfErr result (λ refusal. IsNoGroup n refusal) }
         // Want of memory is not answered where there is no such group.
         ensures memory { IfErr result (λ refusal. refusal ≡ refusals.NoMemory → IsGroup n) }
@@ -176,8 +176,8 @@ impl<M: Machine> RaftWorld<M> {
             return Err(Refusal::OutOfRange);
         }
         let mut servers = Vec::new(alloc);
-        for place in 0..n {
-            servers.push(newcomer(alloc, place, n)?)?;
+        for position in 0..n {
+            servers.push(newcomer(alloc, position, n)?)?;
         }
         Ok(RaftWorld {
             servers,
@@ -189,26 +189,26 @@ impl<M: Machine> RaftWorld<M> {
     /// is refused with `OutOfRange` where `n` is not 3 or 5, and with `NoMemory` where the world
     /// lacks memory.
     pub fn run(alloc: Global, n: usize, events: &[RaftEvent<M>]) -> Result<RaftWorld<M>, Refusal>
-        ensures played { IfOk result (λ w. Played M.meaning n (world_events events.now) w) }
+        ensures played { IfOk result (λ w. Played M.spec n (world_events events.now) w) }
         // The trace of a group leads to that group again.
-        ensures replays { IfOk result (λ w. Replays M.meaning n (world_events events.now) w) }
+        ensures replays { IfOk result (λ w. Replays M.spec n (world_events events.now) w) }
         ensures refused { IfErr result (λ refusal. IsNoGroup n refusal) }
         ensures memory { IfErr result (λ refusal. refusal ≡ refusals.NoMemory → IsGroup n) }
-        ensures one_leader { IfOk result (λ w. OneLeaderEver M.meaning w) }
-        ensures log_matching { IfOk result (λ w. LogsMatchEver M.meaning w) }
-        ensures one_list { IfOk result (λ w. OneListEver M.meaning w) }
-        ensures safe_states { IfOk result (λ w. StatesSafeEver M.meaning w) }
-        ensures recovers { IfOk result (λ w. RecoversEver M.meaning w) }
+        ensures one_leader { IfOk result (λ w. OneLeaderEver M.spec w) }
+        ensures log_matching { IfOk result (λ w. LogsMatchEver M.spec w) }
+        ensures one_list { IfOk result (λ w. OneListEver M.spec w) }
+        ensures safe_states { IfOk result (λ w. StatesSafeEver M.spec w) }
+        ensures recovers { IfOk result (λ w. RecoversEver M.spec w) }
         ensures size { IfOk result (λ w. IsGroup (length w.servers)) }
     {
         let mut world = Self::new(alloc, n)?;
         for event in events {
             let done = world.step(event.again(alloc)?);
-            if lacks_memory(&done) {
+            if is_out_of_memory(&done) {
                 return Err(Refusal::NoMemory);
             }
         }
-        world.group_size();
+        world.size_is_3_or_5();
         world.one_leader();
         world.log_matching();
         world.one_list();
@@ -218,7 +218,7 @@ impl<M: Machine> RaftWorld<M> {
     }
 
     /// A group has 3 or 5 servers.
-    pub fn group_size(&self)
+    pub fn size_is_3_or_5(&self)
         ensures { IsGroup (length self.now.servers) }
     {
         // The type's own promise is known where a field is looked at.
@@ -230,14 +230,14 @@ impl<M: Machine> RaftWorld<M> {
         ensures value { result ≡ length self.now.servers }
         ensures group { IsGroup result }
     {
-        self.group_size();
+        self.size_is_3_or_5();
         self.servers.len()
     }
 
     /// No two servers ever led one term, at no two moments of the run that led here. (Raft, Figure
     /// 3, election safety.)
     pub fn one_leader(&self)
-        ensures { OneLeaderEver M.meaning self.now }
+        ensures { OneLeaderEver M.spec self.now }
     {
         let _ = &self.servers;
         one_leader_a_term::<M>();
@@ -246,7 +246,7 @@ impl<M: Machine> RaftWorld<M> {
     /// Two logs that hold an entry of one index and term, of any two servers at any two moments of
     /// the run that led here, are the same up to it. (Raft, Figure 3, log matching.)
     pub fn log_matching(&self)
-        ensures { LogsMatchEver M.meaning self.now }
+        ensures { LogsMatchEver M.spec self.now }
     {
         let _ = &self.servers;
         log_matching::<M>();
@@ -257,7 +257,7 @@ impl<M: Machine> RaftWorld<M> {
     /// its log what was applied in the terms up to it. (Raft, Figure 3, leader completeness and
     /// state machine safety.)
     pub fn one_list(&self)
-        ensures { OneListEver M.meaning self.now }
+        ensures { OneListEver M.spec self.now }
     {
         let _ = &self.servers;
         one_list::<M>();
@@ -265,7 +265,7 @@ impl<M: Machine> RaftWorld<M> {
 
     /// The state after each first part of that list is safe, in the sense of the machine.
     pub fn safe_states(&self)
-        ensures { StatesSafeEver M.meaning self.now }
+        ensures { StatesSafeEver M.spec self.now }
     {
         let _ = &self.servers;
         states_are_safe::<M>();
@@ -279,7 +279,7 @@ impl<M: Machine> RaftWorld<M> {
     ///
     /// That is what can happen; that it does happen, or when, is not said.
     pub fn recovers(&self)
-        ensures { RecoversEver M.meaning self.now }
+        ensures { RecoversEver M.spec self.now }
     {
         let _ = &self.servers;
         never_stuck::<M>();
@@ -289,7 +289,7 @@ impl<M: Machine> RaftWorld<M> {
     /// Whether each server has room for two more terms and two more entries, as `recovers` asks.
     pub fn has_room(&self) -> bool
         ensures value { (past : List (World M.Command)) (w : World M.Command) →
-            RunsTo M.meaning self.now past w →
+            RunsTo M.spec self.now past w →
             MatchBool result (HasRoom (length self.now.servers) everybody w)
             (HasRoom (length self.now.servers) everybody w → ⊥) }
         // It has, as long as fewer than 2^40 - 2 events happened.
@@ -304,7 +304,7 @@ impl<M: Machine> RaftWorld<M> {
     pub fn chain(&self) -> Index
         ensures value { result ≡ self.now.chain }
         ensures greatest { (past : List (World M.Command)) (w : World M.Command) →
-            RunsTo M.meaning self.now past w → IsGreatestCommit past w result }
+            RunsTo M.spec self.now past w → IsGreatestCommit past w result }
     {
         self.history.chain()
     }

@@ -13,7 +13,7 @@ use Rattle.event_book.specs.declared.view.EventView.{EventView}
 use Rattle.event_book.specs.declared.view.EventView.TheVariants.{Crash}
 use Rattle.cells.specs.declared.own_input.OwnInput.{OwnInput}
 use Rattle.cells.specs.Actors.{ActorTurns, SameActor}
-use Rattle.cells.specs.Refusals.{ActorRefuses, ActorMayLack}
+use Rattle.cells.specs.Refusals.{ActorRefuses, ActorMayEndOutOfMemory}
 
 abbrev pub output_of : Frame → Output
 output_of f = record { to = f.to; frame = f.bytes }
@@ -21,7 +21,7 @@ output_of f = record { to = f.to; frame = f.bytes }
 -- a step, which sent this, or a crash where memory may be wanting, which sent nothing
 abbrev pub Did : GroupActor → EventView OwnInput → Stepped → Outbox → GroupActor → Type 0
 Did old event Taken outbox new = ActorTurns old event (map output_of outbox.frames) outbox.work new
-Did old event Crashed outbox new = (outbox ≡ nothing_sent) × ActorTurns old Crash [] [] new × ActorMayLack old event
+Did old event Crashed outbox new = (outbox ≡ nothing_sent) × ActorTurns old Crash [] [] new × ActorMayEndOutOfMemory old event
 
 -- or a refusal that leaves the same actor
 abbrev pub DidOrRefused : GroupActor → EventView OwnInput → Result Stepped Refusal → Outbox → GroupActor → Type 0

@@ -4,7 +4,7 @@ use Rattle.std.specs.List.{list_any}
 use Rattle.rows.specs.declared.allocation.AllocId.{AllocId}
 use Rattle.rows.specs.Ids.{alloc_cmp}
 use Rattle.fsm_tables.specs.Rows.{row_of, has_row}
-use Rattle.cluster_model.specs.Words.{same_alloc}
+use Rattle.fsm_model.specs.Words.{same_alloc}
 use Rattle.group_model.specs.Agents.{Running, Ended, runs, ended_how}
 use Rattle.client_agent.specs.declared.ids.IdRow.{IdRow}
 

@@ -3,8 +3,8 @@ use Rattle.std.specs.Prelude.{◌≡◌, ℕ, Some, List}
 use Rattle.rows.specs.declared.actor.Actor.TheVariants as actors
 use Rattle.rows.specs.declared.command.Command.{Command}
 use Rattle.wire.specs.Frames.{Frame}
-use Rattle.cluster_model.specs.Words.{State}
-use Rattle.cluster_model.specs.ClusterMachine.{cluster_meaning}
+use Rattle.fsm_model.specs.Words.{State}
+use Rattle.fsm_model.specs.ClusterMachine.{cluster_spec}
 use Rattle.group_model.specs.Messages.{ClientResponse, ToClient}
 use Rattle.group_model.specs.Agents.{Arrives}
 use Rattle.group_frames.specs.GroupFrames.{IsServiceFrame, service_between}
@@ -20,7 +20,7 @@ Responds me received from response = service_between {S = State} {C = Command} (
 abbrev pub IsReceived : ℕ → List ℕ → Received → Type 0
 IsReceived me bytes received =
     (from : ℕ) (response : ClientResponse) →
-    IsServiceFrame cluster_meaning bytes (ToClient from me response) → Responds me received from response
+    IsServiceFrame cluster_spec bytes (ToClient from me response) → Responds me received from response
 
 -- it was taken, whatever it is
 abbrev pub TakesReceived : AgentView → Received → AgentView → List Frame → List Frame → Type 0

@@ -7,7 +7,7 @@ use Rattle.rows.specs.declared.allocation.AllocId.{AllocId}
 use Rattle.rows.specs.declared.allocation.Allocation.{Allocation}
 use Rattle.rows.specs.Keys.{name_cmp}
 use Rattle.fsm_tables.specs.Rows.{has_row}
-use Rattle.cluster_model.specs.Words.{State}
+use Rattle.fsm_model.specs.Words.{State}
 use Rattle.group_model.specs.Drains.{same_group, group_moves}
 use Rattle.drain.specs.declared.group.JobGroup.{JobGroup}
 use Rattle.drain.specs.declared.marked.Marked.{Marked}

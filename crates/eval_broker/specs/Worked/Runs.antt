@@ -3,7 +3,7 @@
 use Rattle.std.specs.Prelude.{◌≡◌, ◌∷◌, [], Err, map}
 use Rattle.rows.specs.declared.refusal.Refusal.TheVariants as refusals
 use Rattle.raft_model.specs.Logs.{MAX}
-use Rattle.cluster_model.specs.Worked.Words.{eval_id}
+use Rattle.fsm_model.specs.Worked.Words.{eval_id}
 use Rattle.fsm_tables.specs.declared.urgency.Urgency.{Urgency}
 use Rattle.group_model.specs.Brokers.{Broker, UsedUp, deliver, outstanding, with_nack}
 use Rattle.group_model.specs.Worked.Words.{token}

@@ -12,9 +12,9 @@ use Rattle.fsm_tables.specs.Rows.{row_of}
 use Rattle.fsm_tables.specs.Claims.{Claim, claim_of, claims, used, is_live}
 use Rattle.fsm_tables.specs.LiveNames.{live_named}
 use Rattle.fsm_tables.specs.declared.name.AllocName.{AllocName}
-use Rattle.cluster_model.specs.Words.{State, same_alloc}
-use Rattle.cluster_model.specs.Safe.{are_distinct}
-use Rattle.cluster_model.specs.Plans.{room_of, wanted}
+use Rattle.fsm_model.specs.Words.{State, same_alloc}
+use Rattle.fsm_model.specs.Safe.{are_distinct}
+use Rattle.fsm_model.specs.Plans.{room_of, wanted}
 
 -- ---- names
 

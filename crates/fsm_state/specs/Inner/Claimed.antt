@@ -5,9 +5,9 @@ use Rattle.rows.specs.declared.node.Node.{Node}
 use Rattle.rows.specs.Sizes.{less, fits}
 use Rattle.rows.specs.declared.allocation.Allocation.{Allocation}
 use Rattle.fsm_tables.specs.Claims.{Claim, claim_of, claims, is_live}
-use Rattle.cluster_model.specs.Words.{State}
-use Rattle.cluster_model.specs.Safe.{are_distinct}
-use Rattle.cluster_model.specs.Plans.{is_made}
+use Rattle.fsm_model.specs.Words.{State}
+use Rattle.fsm_model.specs.Safe.{are_distinct}
+use Rattle.fsm_model.specs.Plans.{is_made}
 
 -- whether what is claimed of a node is within so much
 abbrev pub fits_steps : ℕ → List Claim → Size → Bool

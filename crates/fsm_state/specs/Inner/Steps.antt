@@ -19,8 +19,8 @@ use Rattle.fsm_tables.specs.Rows.{row_of, put_within}
 use Rattle.fsm_tables.specs.TableRows.{TableRows}
 use Rattle.fsm_tables.specs.Claims.{is_active, is_live}
 use Rattle.rows.specs.Limits.{most_jobs, most_nodes, most_evals, most_allocs}
-use Rattle.cluster_model.specs.Words.{State, alloc_of, is_open}
-use Rattle.cluster_model.specs.Effect.{client_row, left_as, is_ended_by, client_state_of, with_evals}
+use Rattle.fsm_model.specs.Words.{State, alloc_of, is_open}
+use Rattle.fsm_model.specs.Effect.{client_row, left_as, is_ended_by, client_state_of, with_evals}
 use Rattle.rows.specs.declared.command.StatusChange.{StatusChange}
 use Rattle.rows.specs.Changes.{status_of, snapshot_of}
 

@@ -4,10 +4,10 @@ ghost use Rattle.std.specs.Prelude.{◌≡◌, List, ◌++◌, ◌≤◌, ◌+�
 ghost use Rattle.std.specs.List.{list_all};
 ghost use Rattle.fsm_tables.specs.Claims.{used, Claim as AnyClaim};
 ghost use Rattle.rows.specs.Limits.{most_allocs};
-ghost use Rattle.cluster_model.specs.Safe.{is_safe};
-ghost use Rattle.cluster_model.specs.Words.{node_of, alloc_of};
-ghost use Rattle.cluster_model.specs.Effect.{with_next_count, planned};
-ghost use Rattle.cluster_model.specs.Plans.{wanted, are_dated, room_of};
+ghost use Rattle.fsm_model.specs.Safe.{is_safe};
+ghost use Rattle.fsm_model.specs.Words.{node_of, alloc_of};
+ghost use Rattle.fsm_model.specs.Effect.{with_next_count, planned};
+ghost use Rattle.fsm_model.specs.Plans.{wanted, are_dated, room_of};
 ghost use Rattle.fsm_state.specs.Inner.Alone.{claim_name, is_name_free, claim_if_live, ended_by, has_room, all_numbers, passes_alone};
 
 use crate::admission::claims::{Claim, add_wanted, are_distinct, claim_by};

@@ -2,8 +2,8 @@
 ghost use Rattle.std.specs.Prelude.{◌≡◌, ◌+◌, ◌++◌, ◌&&◌, ◌<◌, OnOk};
 ghost use Rattle.std.specs.List.{list_any};
 ghost use Rattle.fsm_tables.specs.Claims.{Claim as AnyClaim, claim_of};
-ghost use Rattle.cluster_model.specs.Safe.{same_name, are_distinct};
-ghost use Rattle.cluster_model.specs.Plans.{place_claim, wanted};
+ghost use Rattle.fsm_model.specs.Safe.{same_name, are_distinct};
+ghost use Rattle.fsm_model.specs.Plans.{place_claim, wanted};
 
 use crate::room::TakesRoom;
 use rows::{

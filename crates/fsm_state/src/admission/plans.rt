@@ -2,9 +2,9 @@
 ghost use Rattle.std.specs.Prelude.{◌≡◌, ◌≤◌, ◌&&◌, ◌+◌, Option, Some, None, IfOk, length, nat_lt};
 ghost use Rattle.std.specs.List.{list_any, list_all};
 ghost use Rattle.rows.specs.Limits.{most_allocs};
-ghost use Rattle.cluster_model.specs.Words.{is_some_and, is_pending, eval_of, node_of};
+ghost use Rattle.fsm_model.specs.Words.{is_some_and, is_pending, eval_of, node_of};
 ghost use Rattle.rows.specs.declared.command.Command.TheVariants as commands;
-ghost use Rattle.cluster_model.specs.Admission.{admission, is_stopped, is_live_of, may_hold, is_asked, fits_job};
+ghost use Rattle.fsm_model.specs.Admission.{admission, is_stopped, is_live_of, may_hold, is_asked, fits_job};
 
 use crate::cluster::Cluster;
 use fsm_tables::{Tables, is_live};

@@ -2,16 +2,16 @@
 ghost use Rattle.std.specs.Prelude.{◌≡◌, ◌≢◌, [], Option, Some, None, IfOk, OnOk, OnErr, filter, option_map};
 ghost use Rattle.std.specs.List.{list_any, list_all};
 ghost use Rattle.rows.specs.declared.command.Command.TheVariants as commands;
-ghost use Rattle.cluster_model.specs.Words.{no_alloc};
-ghost use Rattle.cluster_model.specs.Admission.{admission, touch_passes, drains, can_move, is_its_own};
-ghost use Rattle.cluster_model.specs.Effect.{moves, owns, is_ended_by, told, told_all};
+ghost use Rattle.fsm_model.specs.Words.{no_alloc};
+ghost use Rattle.fsm_model.specs.Admission.{admission, new_evals_pass, drains, can_move, is_its_own};
+ghost use Rattle.fsm_model.specs.Effect.{moves, owns, is_ended_by, told, told_all};
 ghost use Rattle.fsm_tables.specs.Lookups.{lives_on};
 ghost use Rattle.fsm_state.specs.Inner.Steps.{is_named_in, ended_job, ended_now, HasNames, AddsNames};
 
 use crate::admission::is_drained;
 use crate::apply::reports::told as told_itself;
 use crate::cluster::Cluster;
-use crate::touch::add_name;
+use crate::new_evaluations::add_name;
 use fsm_tables::{Tables, is_live};
 use rows::{AllocId, Allocation, JobName, NoMemory, NodeId, Refusal, Report, Reports, RisingIds};
 use std::collections::BTreeSet;
@@ -60,7 +60,7 @@ fn add_ended(
 impl Cluster {
     /// Whether the evaluations that touch the jobs of these names would pass the limit.
     fn names_pass(&self, names: &BTreeSet<JobName>) -> bool
-        ensures { result ≡ touch_passes (is_named_in names.now) self.now }
+        ensures { result ≡ new_evals_pass (is_named_in names.now) self.now }
     {
         self.ranges();
         let more = self.count_all(names);
@@ -80,7 +80,7 @@ impl Cluster {
     /// Whether the jobs that the loss of a node touches would pass the limit.
     fn loss_passes(&self, node: NodeId) -> Result<bool, NoMemory>
         ensures ok { let those = owns (lives_on node) self.now.allocs in
-            IfOk result (λ b. b ≡ touch_passes those self.now) }
+            IfOk result (λ b. b ≡ new_evals_pass those self.now) }
         ensures memory { OnErr result (filter (lives_on node) self.now.allocs ≢ []) }
     {
         let names = self.jobs_on(node)?;
@@ -137,7 +137,7 @@ impl Cluster {
     /// Whether the jobs of the live ones among the allocations would pass the limit.
     fn moves_pass(&self, ids: &[AllocId]) -> Result<bool, NoMemory>
         ensures { let those = owns (moves ids.now) self.now.allocs in
-            IfOk result (λ b. b ≡ touch_passes those self.now) }
+            IfOk result (λ b. b ≡ new_evals_pass those self.now) }
     {
         self.ranges();
         let names = self.jobs_of(ids)?;
@@ -197,7 +197,7 @@ impl Cluster {
     /// Whether the jobs of the allocations that the reports end would pass the limit.
     fn reports_pass(&self, node: NodeId, reports: &[Report]) -> Result<bool, NoMemory>
         ensures { let those = owns (is_ended_by (told_all node reports.now)) self.now.allocs in
-            IfOk result (λ b. b ≡ touch_passes those self.now) }
+            IfOk result (λ b. b ≡ new_evals_pass those self.now) }
     {
         self.ranges();
         let names = self.jobs_ended(node, reports)?;

@@ -2,9 +2,9 @@
 ghost use Rattle.std.specs.Prelude.{◌≡◌, ◌≤◌, List, ◌++◌, ◌+◌, ◌&&◌, ◌<◌, IfOk, OnOk, length};
 ghost use Rattle.std.specs.List.{list_all};
 ghost use Rattle.rows.specs.Limits.{most_allocs};
-ghost use Rattle.cluster_model.specs.Safe.{is_safe, is_placed, are_distinct, are_safe};
-ghost use Rattle.cluster_model.specs.Effect.{with_next_count, planned, stop};
-ghost use Rattle.cluster_model.specs.Plans.{are_free, is_made, left_by};
+ghost use Rattle.fsm_model.specs.Safe.{is_safe, is_placed, are_distinct, are_safe};
+ghost use Rattle.fsm_model.specs.Effect.{with_next_count, planned, stop};
+ghost use Rattle.fsm_model.specs.Plans.{are_free, is_made, left_by};
 ghost use Rattle.fsm_state.specs.Inner.Claimed.{bears_node, left_one, HeldOnce};
 ghost use Rattle.rows.specs.declared.allocation.Allocation.{Allocation as Row};
 ghost use Rattle.fsm_tables.specs.Claims.{Claim as AnyClaim};

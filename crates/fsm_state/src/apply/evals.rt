@@ -1,7 +1,7 @@
 //! Statuses of evaluations that are set.
 ghost use Rattle.std.specs.Prelude.{◌≡◌, ◌≢◌, OnOk, OnErr, None, false, true};
 ghost use Rattle.rows.specs.Changes.{status_of, snapshot_of};
-ghost use Rattle.cluster_model.specs.Words.{is_open, eval_of};
+ghost use Rattle.fsm_model.specs.Words.{is_open, eval_of};
 ghost use Rattle.fsm_state.specs.Inner.Steps.{set_one, eval_changed};
 
 use crate::cluster::Cluster;
@@ -53,7 +53,11 @@ fn settled(row: &Evaluation, change: &StatusChange) -> Evaluation
 
 impl Cluster {
     /// Sets the status of an evaluation.
-    pub(super) fn settle(&mut self, id: EvalId, change: &StatusChange) -> Result<(), NoMemory>
+    pub(super) fn set_eval_status(
+        &mut self,
+        id: EvalId,
+        change: &StatusChange,
+    ) -> Result<(), NoMemory>
         ensures ok { OnOk result (self.new ≡ eval_changed (set_one change.now) id self.old) }
         ensures memory { OnErr result (eval_of id self.old ≢ None) }
     {

@@ -1,7 +1,7 @@
 //! Rows of jobs that are made and stopped.
 ghost use Rattle.std.specs.Prelude.{◌≡◌, ◌≢◌, OnOk, OnErr, IfOk, None, false, true};
-ghost use Rattle.cluster_model.specs.Words.{job_of};
-ghost use Rattle.cluster_model.specs.Effect.{with_job, job_row, stopped_row};
+ghost use Rattle.fsm_model.specs.Words.{job_of};
+ghost use Rattle.fsm_model.specs.Effect.{with_job_row, job_row, stopped_row};
 ghost use Rattle.fsm_state.specs.Inner.Steps.{job_changed};
 
 use crate::cluster::Cluster;
@@ -36,15 +36,15 @@ fn stopped_job(alloc: Global, job: &Job, version: Index) -> Result<Job, NoMemory
 
 impl Cluster {
     /// Makes the row of a job, or replaces it.
-    pub(super) fn make_job(&mut self, spec: &JobSpec) -> Result<(), NoMemory>
-        ensures { OnOk result (self.new ≡ with_job spec.now self.old) }
+    pub(super) fn put_job_row(&mut self, spec: &JobSpec) -> Result<(), NoMemory>
+        ensures { OnOk result (self.new ≡ with_job_row spec.now self.old) }
     {
         let row = new_job(self.memory(), spec, self.applied())?;
         self.put_job(row)
     }
 
     /// Stops a job.
-    pub(super) fn end_job(&mut self, name: &JobName) -> Result<(), NoMemory>
+    pub(super) fn stop_job_row(&mut self, name: &JobName) -> Result<(), NoMemory>
         ensures ok { let stops = stopped_row self.old.count in
             OnOk result (self.new ≡ job_changed stops name.now self.old) }
         ensures memory { OnErr result (job_of name.now self.old ≢ None) }

@@ -1,11 +1,11 @@
 //! Allocations on a node that is not heard of, and their jobs.
 ghost use Rattle.std.specs.Prelude.{◌≡◌, ◌≢◌, [], OnOk, MatchResult, filter};
 ghost use Rattle.fsm_tables.specs.Lookups.{lives_on};
-ghost use Rattle.cluster_model.specs.Effect.{client_row};
+ghost use Rattle.fsm_model.specs.Effect.{client_row};
 ghost use Rattle.fsm_state.specs.Inner.Steps.{all_left, owners, HasNames};
 
 use crate::cluster::Cluster;
-use crate::touch::add_name;
+use crate::new_evaluations::add_name;
 use rows::{Allocation, ClientState, JobName, NoMemory, NodeId};
 use std::collections::BTreeSet;
 

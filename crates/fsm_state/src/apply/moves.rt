@@ -3,7 +3,7 @@ ghost use Rattle.std.specs.Prelude.{◌≡◌, OnOk, option_map, ◌<◌, IfOk};
 ghost use Rattle.fsm_state.specs.Inner.Steps.{alloc_changed, mark_one, marked_all, live_job, live_jobs, HasNames, AddsNames};
 
 use crate::cluster::Cluster;
-use crate::touch::add_name;
+use crate::new_evaluations::add_name;
 use fsm_tables::is_live;
 use rows::{AllocId, Allocation, JobName, NoMemory};
 use std::collections::BTreeSet;

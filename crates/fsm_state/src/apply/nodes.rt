@@ -1,7 +1,7 @@
 //! Rows of nodes that come, are not heard of, are drained, and have room.
 ghost use Rattle.std.specs.Prelude.{◌≡◌, ◌≢◌, OnOk, OnErr, None, false, true, option_map};
-ghost use Rattle.cluster_model.specs.Words.{node_of};
-ghost use Rattle.cluster_model.specs.Effect.{with_node, node_row, status_row, draining_row, drained_row};
+ghost use Rattle.fsm_model.specs.Words.{node_of};
+ghost use Rattle.fsm_model.specs.Effect.{node_put, node_row, status_row, draining_row, drained_row};
 ghost use Rattle.fsm_state.specs.Inner.Steps.{node_changed, node_has_room};
 
 use crate::cluster::Cluster;
@@ -33,7 +33,7 @@ fn registered(spec: &NodeSpec, old: Option<&Node>, room: Index) -> Node
 impl Cluster {
     /// A node comes, or comes back.
     pub(super) fn make_node(&mut self, spec: &NodeSpec) -> Result<(), NoMemory>
-        ensures { OnOk result (self.new ≡ with_node spec.now self.old) }
+        ensures { OnOk result (self.new ≡ node_put spec.now self.old) }
     {
         let row = registered(spec, self.node(spec.number), self.applied());
         self.put_node(row)

@@ -1,6 +1,6 @@
 //! What a plan stops and places.
 ghost use Rattle.std.specs.Prelude.{◌≡◌, OnOk, ◌<◌};
-ghost use Rattle.cluster_model.specs.Effect.{alloc_row, with_plan_places};
+ghost use Rattle.fsm_model.specs.Effect.{alloc_row, with_plan_places};
 ghost use Rattle.fsm_state.specs.Inner.Steps.{revised, stop_one, stopped_all};
 
 use crate::cluster::Cluster;

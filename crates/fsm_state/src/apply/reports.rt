@@ -1,10 +1,10 @@
 //! What reports of a node change, and the jobs of the allocations that they end.
 ghost use Rattle.std.specs.Prelude.{◌≡◌, ◌&&◌, OnOk, option_map, ◌<◌, IfOk};
-ghost use Rattle.cluster_model.specs.Effect.{client_state_of};
+ghost use Rattle.fsm_model.specs.Effect.{client_state_of};
 ghost use Rattle.fsm_state.specs.Inner.Steps.{revised, tell_one, told_steps, ended_job, ended_jobs, HasNames, AddsNames};
 
 use crate::cluster::Cluster;
-use crate::touch::add_name;
+use crate::new_evaluations::add_name;
 use fsm_tables::{is_active, is_live};
 use rows::{Allocation, ClientState, JobName, NoMemory, NodeId, Report, ReportedState};
 use std::collections::BTreeSet;
@@ -49,7 +49,7 @@ fn add_ended(
 
 impl Cluster {
     /// Takes a report.
-    fn take_report(&mut self, node: NodeId, report: &Report) -> Result<(), NoMemory>
+    fn apply_report(&mut self, node: NodeId, report: &Report) -> Result<(), NoMemory>
         ensures { OnOk result (
             self.new ≡ revised (tell_one node report.now) report.now.id self.old) }
     {
@@ -63,7 +63,7 @@ impl Cluster {
     }
 
     /// Takes reports, one after the other, and says the jobs of the allocations that they end.
-    pub(super) fn take_reports(
+    pub(super) fn apply_reports(
         &mut self,
         node: NodeId,
         reports: &[Report],
@@ -74,7 +74,7 @@ impl Cluster {
         let mut names = BTreeSet::new(self.memory());
         for report in reports {
             add_ended(&mut names, self.alloc(report.id), node, report)?;
-            self.take_report(node, report)?;
+            self.apply_report(node, report)?;
         }
         Ok(names)
     }

@@ -5,7 +5,7 @@ use Rattle.rows.specs.declared.refusal.Refusal.TheVariants as refusals
 use Rattle.rows.specs.declared.listing.LiveState.{LiveState}
 use Rattle.rows.specs.declared.listing.LiveState.TheVariants as live_states
 use Rattle.rows.specs.declared.command.ReportedState.TheVariants as reported
-use Rattle.cluster_model.specs.Worked.Words.{linux, size, alloc_id}
+use Rattle.fsm_model.specs.Worked.Words.{linux, size, alloc_id}
 use Rattle.group_model.specs.Agents as agents
 use Rattle.group_model.specs.Agents.{Agent}
 use Rattle.group_model.specs.Messages.{ServiceMessage, ToServer, ReportStates, Listing}

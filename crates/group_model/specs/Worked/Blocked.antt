@@ -2,7 +2,7 @@
 use Rattle.std.specs.Prelude.{◌≡◌, ℕ, List, [], ◌∷◌, map}
 use Rattle.rows.specs.declared.evaluation.EvalId.{EvalId}
 use Rattle.rows.specs.declared.evaluation.EvalStatus.TheVariants as eval_statuses
-use Rattle.cluster_model.specs.Worked.Words.{linux, web, eval_id}
+use Rattle.fsm_model.specs.Worked.Words.{linux, web, eval_id}
 use Rattle.group_model.specs.Blocked.{BlockedEval, BlockedEvals, with_blocked, made_due}
 
 -- `arm`

@@ -4,7 +4,7 @@ use Rattle.rows.specs.declared.refusal.Refusal.TheVariants as refusals
 use Rattle.rows.specs.declared.evaluation.EvalId.{EvalId}
 use Rattle.rows.specs.declared.evaluation.Evaluation.{Evaluation}
 use Rattle.rows.specs.declared.evaluation.EvalStatus.TheVariants as eval_statuses
-use Rattle.cluster_model.specs.Worked.Words.{eval_id}
+use Rattle.fsm_model.specs.Worked.Words.{eval_id}
 use Rattle.group_model.specs.Brokers.{Broker, no_tasks, broker_over, broker_with, Given, Nothing, UsedUp, Gives, deliver, after_gift, outstanding, with_ack, with_nack}
 use Rattle.group_model.specs.Worked.Words.{token, a, b}
 

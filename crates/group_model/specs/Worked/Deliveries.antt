@@ -5,7 +5,7 @@ use Rattle.rows.specs.declared.evaluation.EvalId.{EvalId}
 use Rattle.rows.specs.declared.token.Delivery.{Delivery}
 use Rattle.rows.specs.declared.command.StatusChange.TheVariants as changes
 use Rattle.rows.specs.declared.command.Command.TheVariants as commands
-use Rattle.cluster_model.specs.Worked.Words.{eval_id}
+use Rattle.fsm_model.specs.Worked.Words.{eval_id}
 use Rattle.group_model.specs.Desks.{Desk}
 use Rattle.group_model.specs.Inputs as inputs
 use Rattle.group_model.specs.Servers as servers

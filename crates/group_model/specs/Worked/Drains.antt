@@ -3,8 +3,8 @@ use Rattle.std.specs.Prelude.{◌≡◌, true, Err, [], ◌∷◌}
 use Rattle.rows.specs.declared.refusal.Refusal.TheVariants as refusals
 use Rattle.rows.specs.declared.node.DrainMode.TheVariants as drains
 use Rattle.rows.specs.declared.allocation.Allocation.{Allocation}
-use Rattle.cluster_model.specs.Words.{State}
-use Rattle.cluster_model.specs.Worked.Words.{web, size, alloc_id}
+use Rattle.fsm_model.specs.Words.{State}
+use Rattle.fsm_model.specs.Worked.Words.{web, size, alloc_id}
 use Rattle.group_model.specs.Drains.{moves_of, next_moves}
 use Rattle.group_model.specs.Worked.Words.{alloc_row, one_runs}
 

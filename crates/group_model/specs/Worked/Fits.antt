@@ -10,9 +10,9 @@ use Rattle.rows.specs.declared.node.DrainMode.TheVariants as drains
 use Rattle.rows.specs.declared.listing.LiveState.TheVariants as live_states
 use Rattle.rows.specs.declared.plan.Place.{Place}
 use Rattle.rows.specs.declared.command.Command.TheVariants as commands
-use Rattle.cluster_model.specs.Words.{State}
-use Rattle.cluster_model.specs.Effect.{applied}
-use Rattle.cluster_model.specs.Worked.Words.{linux, web, api, main, size, size_with_disk, alloc_id, mains, runs}
+use Rattle.fsm_model.specs.Words.{State}
+use Rattle.fsm_model.specs.Effect.{applied}
+use Rattle.fsm_model.specs.Worked.Words.{linux, web, api, main, size, size_with_disk, alloc_id, mains, runs}
 use Rattle.group_model.specs.Acceptance.{Accepted, accept, keeps_some}
 use Rattle.group_model.specs.Drains.{moves_of}
 use Rattle.group_model.specs.Scheduling.{WantedName, missing_names}

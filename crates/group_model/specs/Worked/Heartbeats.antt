@@ -6,7 +6,7 @@ use Rattle.rows.specs.declared.refusal.Refusal.TheVariants as refusals
 use Rattle.rows.specs.declared.command.Command.{Command}
 use Rattle.rows.specs.declared.command.Command.TheVariants as commands
 use Rattle.machine_model.specs.declared.entry.Entry.{Entry}
-use Rattle.cluster_model.specs.Worked.Words.{size, comes}
+use Rattle.fsm_model.specs.Worked.Words.{size, comes}
 use Rattle.group_model.specs.Desks.{Desk, after_entries, applied_state}
 use Rattle.group_model.specs.Inputs as inputs
 use Rattle.group_model.specs.Servers as servers
@@ -54,8 +54,8 @@ abbrev pub GoesDown : Type 0
 GoesDown = (after_inputs (away_in away_log) (inputs.Expire 1 1 ∷ [])).raft.log ≡ away_log ++ entry 1 (commands.NodeDown 1) ∷ []
 
 -- It is heard of while it is disconnected.
-abbrev pub BeatAway : Type 0
-BeatAway = is_stale (servers.step 3 0 (after_inputs (away_in away_log) (heartbeat_comes ∷ [])) (inputs.Expire 1 1)) ≡ true
+abbrev pub HeartbeatAway : Type 0
+HeartbeatAway = is_stale (servers.step 3 0 (after_inputs (away_in away_log) (heartbeat_comes ∷ [])) (inputs.Expire 1 1)) ≡ true
 
 -- Where it comes back, and that is not applied yet, it goes down all the same.
 abbrev pub back_log : List (Entry Command)

@@ -2,7 +2,7 @@
 use Rattle.std.specs.Prelude.{◌≡◌, ℕ, Option, Some, None, Result, Ok, Err, List, [], ◌∷◌}
 use Rattle.rows.specs.declared.refusal.Refusal.{Refusal}
 use Rattle.rows.specs.declared.refusal.Refusal.TheVariants as refusals
-use Rattle.cluster_model.specs.Worked.Words.{linux, size}
+use Rattle.fsm_model.specs.Worked.Words.{linux, size}
 use Rattle.group_model.specs.Inputs as inputs
 use Rattle.group_model.specs.Agents as agents
 use Rattle.group_model.specs.Messages.{ToServer, Heartbeat, Listing}

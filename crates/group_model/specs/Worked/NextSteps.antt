@@ -1,7 +1,7 @@
 -- What a worker does next, where one of two asked for lives, and the other fits nowhere.
 use Rattle.std.specs.Prelude.{ℕ, Some, None, [], ◌∷◌}
-use Rattle.cluster_model.specs.Words.{no_rows}
-use Rattle.cluster_model.specs.Worked.Words.{web, eval_id}
+use Rattle.fsm_model.specs.Words.{no_rows}
+use Rattle.fsm_model.specs.Worked.Words.{web, eval_id}
 use Rattle.rows.specs.declared.reason.Reason.{Reason}
 use Rattle.rows.specs.declared.reason.Reason.TheVariants.{SnapshotTooOld, JobChanged, UnknownJob, QueueFull, JobStopped, NotOutstanding, NotLeader}
 use Rattle.rows.specs.declared.worker.EvalOutcome.TheVariants.{Complete, Blocked}

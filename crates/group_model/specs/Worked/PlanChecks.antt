@@ -3,7 +3,7 @@ use Rattle.std.specs.Prelude.{◌≡◌, ℕ, Ok, Err, [], ◌∷◌}
 use Rattle.rows.specs.declared.refusal.Refusal.TheVariants as refusals
 use Rattle.rows.specs.declared.plan.Plan.{Plan}
 use Rattle.rows.specs.declared.command.AcceptedPlace.{AcceptedPlace}
-use Rattle.cluster_model.specs.Worked.Words.{web, main, size, size_with_disk, eval_id, alloc_id}
+use Rattle.fsm_model.specs.Worked.Words.{web, main, size, size_with_disk, eval_id, alloc_id}
 use Rattle.group_model.specs.Acceptance.{accept}
 use Rattle.group_model.specs.Worked.Words.{token, one_runs, on_disks}
 

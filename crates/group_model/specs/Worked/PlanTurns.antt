@@ -10,8 +10,8 @@ use Rattle.rows.specs.declared.worker.AskedRequest.TheVariants as asked
 use Rattle.rows.specs.declared.worker.WorkerResponse.TheVariants.{Delivered, PlanResult, Refused}
 use Rattle.machine_model.specs.declared.entry.Entry.{Entry}
 use Rattle.raft_model.specs.Rafts as rafts
-use Rattle.cluster_model.specs.Words.{no_rows}
-use Rattle.cluster_model.specs.Worked.Words.{main, size, eval_id}
+use Rattle.fsm_model.specs.Words.{no_rows}
+use Rattle.fsm_model.specs.Worked.Words.{main, size, eval_id}
 use Rattle.group_model.specs.Desks.{after_entries}
 use Rattle.group_model.specs.Inputs as inputs
 use Rattle.group_model.specs.Servers as servers

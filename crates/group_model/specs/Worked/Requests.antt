@@ -8,7 +8,7 @@ use Rattle.rows.specs.declared.command.ReportedState.TheVariants as reported
 use Rattle.rows.specs.declared.command.Command.{Command}
 use Rattle.rows.specs.declared.command.Command.TheVariants as commands
 use Rattle.machine_model.specs.declared.entry.Entry.{Entry}
-use Rattle.cluster_model.specs.Worked.Words.{linux, api, main, size, eval_id, alloc_id, comes}
+use Rattle.fsm_model.specs.Worked.Words.{linux, api, main, size, eval_id, alloc_id, comes}
 use Rattle.group_model.specs.Inputs as inputs
 use Rattle.group_model.specs.Servers as servers
 use Rattle.group_model.specs.Servers.{Server}

@@ -5,9 +5,9 @@ use Rattle.rows.specs.declared.evaluation.Evaluation.{Evaluation}
 use Rattle.rows.specs.declared.allocation.AllocId.{AllocId}
 use Rattle.rows.specs.declared.plan.Place.{Place}
 use Rattle.rows.specs.declared.command.Command.TheVariants as commands
-use Rattle.cluster_model.specs.Words.{State, no_rows}
-use Rattle.cluster_model.specs.Effect.{applied}
-use Rattle.cluster_model.specs.Worked.Words.{web, main, size, eval_id, alloc_id, comes, runs, place, plans, eval_row, after_all}
+use Rattle.fsm_model.specs.Words.{State, no_rows}
+use Rattle.fsm_model.specs.Effect.{applied}
+use Rattle.fsm_model.specs.Worked.Words.{web, main, size, eval_id, alloc_id, comes, runs, place, plans, eval_row, after_all}
 use Rattle.group_model.specs.Scheduling.{WorkerPlan, IsPlanFor}
 use Rattle.group_model.specs.Worked.Words.{on_disks}
 

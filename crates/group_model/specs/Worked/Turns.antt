@@ -15,8 +15,8 @@ use Rattle.rows.specs.declared.worker.AskedRequest.TheVariants as asked
 use Rattle.rows.specs.declared.worker.WorkerResponse.TheVariants.{Delivered, Refused}
 use Rattle.machine_model.specs.declared.entry.Entry.{Entry}
 use Rattle.raft_model.specs.Rafts as rafts
-use Rattle.cluster_model.specs.Words.{no_rows}
-use Rattle.cluster_model.specs.Worked.Words.{size, eval_id, alloc_id, comes}
+use Rattle.fsm_model.specs.Words.{no_rows}
+use Rattle.fsm_model.specs.Worked.Words.{size, eval_id, alloc_id, comes}
 use Rattle.group_model.specs.Brokers.{outstanding}
 use Rattle.group_model.specs.Agents as agents
 use Rattle.group_model.specs.Desks.{Desk, after_entries}

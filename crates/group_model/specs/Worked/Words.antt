@@ -16,9 +16,9 @@ use Rattle.rows.specs.declared.command.Command.{Command}
 use Rattle.rows.specs.declared.command.Command.TheVariants as commands
 use Rattle.machine_model.specs.declared.entry.Entry.{Entry}
 use Rattle.raft_model.specs.Rafts as rafts
-use Rattle.cluster_model.specs.Words.{State}
-use Rattle.cluster_model.specs.Words.{no_rows}
-use Rattle.cluster_model.specs.Worked.Words.{linux, web, api, main, size, size_with_disk, eval_id, alloc_id, comes, mains, runs, after_all}
+use Rattle.fsm_model.specs.Words.{State}
+use Rattle.fsm_model.specs.Words.{no_rows}
+use Rattle.fsm_model.specs.Worked.Words.{linux, web, api, main, size, size_with_disk, eval_id, alloc_id, comes, mains, runs, after_all}
 use Rattle.group_model.specs.Desks.{Desk, after_entries}
 use Rattle.group_model.specs.Inputs as inputs
 use Rattle.group_model.specs.Servers as servers

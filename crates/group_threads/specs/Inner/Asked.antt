@@ -5,7 +5,7 @@ use Rattle.rows.specs.declared.actor.Actor.TheVariants as actors
 use Rattle.rows.specs.declared.refusal.Refusal.{Refusal}
 use Rattle.rows.specs.declared.refusal.Refusal.TheVariants as refusals
 use Rattle.rows.specs.declared.worker.Work.{Work}
-use Rattle.cluster_model.specs.Words.{State}
+use Rattle.fsm_model.specs.Words.{State}
 use Rattle.group_model.specs.NextStep.{IsNextStep, WorkerStep}
 use Rattle.group_model.specs.Worlds.{AtServer}
 use Rattle.group_inputs.specs.declared.server_input.ServerInput.{ServerInput}

@@ -12,11 +12,11 @@ use Rattle.rows.specs.Keys.{eval_cmp, eval_id}
 use Rattle.rows.specs.Rising.{is_rising}
 use Rattle.fsm_tables.specs.Rows.{row_of}
 use Rattle.rows.specs.Limits.{most_jobs}
-use Rattle.cluster_model.specs.Words.{State, job_of, node_of, eval_of}
-use Rattle.cluster_model.specs.Effect.{with_evals}
+use Rattle.fsm_model.specs.Words.{State, job_of, node_of, eval_of}
+use Rattle.fsm_model.specs.Effect.{with_evals}
 use Rattle.group_model.specs.Brokers.{Broker, broker_with}
 use Rattle.group_model.specs.Blocked.{BlockedEvals, blocked_with_eval, blocked_with_job}
-use Rattle.group_model.specs.Expiry.{BeatCount, beat_counts_with}
+use Rattle.group_model.specs.Expiry.{HeartbeatCount, heartbeat_counts_with}
 use Rattle.blocked.specs.Rooms.{with_room_of}
 use Rattle.leader.specs.Following.{has_just_room}
 
@@ -82,12 +82,12 @@ tell_job _ s b = b
 
 -- ---- nodes
 
-abbrev pub at_node : Option Node → List BeatCount → List BeatCount
+abbrev pub at_node : Option Node → List HeartbeatCount → List HeartbeatCount
 at_node None counts = counts
-at_node (Some n) counts = beat_counts_with n counts
+at_node (Some n) counts = heartbeat_counts_with n counts
 
 -- a node that comes, and one that is down or disconnected
-abbrev pub tell_node : Command → State → List BeatCount → List BeatCount
+abbrev pub tell_node : Command → State → List HeartbeatCount → List HeartbeatCount
 tell_node (commands.NodePut n) s counts = at_node (node_of n.number s) counts
 tell_node (commands.NodeDown n) s counts = at_node (node_of n s) counts
 tell_node (commands.Disconnect n) s counts = at_node (node_of n s) counts

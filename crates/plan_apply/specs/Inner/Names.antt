@@ -7,7 +7,7 @@ use Rattle.rows.specs.declared.command.AcceptedPlace.{AcceptedPlace}
 use Rattle.fsm_tables.specs.Claims.{is_live}
 use Rattle.fsm_tables.specs.LiveNames.{is_called}
 use Rattle.fsm_tables.specs.declared.name.AllocName.{AllocName}
-use Rattle.cluster_model.specs.Words.{same_alloc}
+use Rattle.fsm_model.specs.Words.{same_alloc}
 
 -- two places of one job are of one name
 abbrev pub same_place : AcceptedPlace → AcceptedPlace → Bool

@@ -5,8 +5,8 @@ use Rattle.rows.specs.declared.allocation.AllocId.{AllocId}
 use Rattle.rows.specs.declared.allocation.Allocation.{Allocation}
 use Rattle.rows.specs.Keys.{alloc_id}
 use Rattle.fsm_tables.specs.Claims.{claim_of}
-use Rattle.cluster_model.specs.Words.{State, same_alloc}
-use Rattle.cluster_model.specs.Admission.{is_live_of}
+use Rattle.fsm_model.specs.Words.{State, same_alloc}
+use Rattle.fsm_model.specs.Admission.{is_live_of}
 use Rattle.fsm_state.specs.Inner.Alone.{ended_by}
 
 -- one more, if it is a live one of the job that is not there yet

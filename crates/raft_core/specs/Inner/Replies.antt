@@ -1,11 +1,11 @@
 -- What a leader learns from an answer to what it sent.
 use Rattle.std.specs.Prelude.{ℕ, suc, ◌-◌, max, min, Bool, ◌&&◌, nat_le, if◌then◌else◌, List, slice_set}
 use Rattle.raft_model.specs.Quorums.{index_at}
-use Rattle.raft_model.specs.Rafts.{Raft, Mode, hears_ok, hears_refusal}
+use Rattle.raft_model.specs.Rafts.{Raft, Mode, after_append_ok, after_append_refusal}
 
 -- server j holds its log up to `at`, or refuses and says where to try again
-abbrev pub hears_either : {C : Type 0} → ℕ → ℕ → Raft C → ℕ → Bool → ℕ → Mode → Raft C
-hears_either n me s j ok at mode = if ok then hears_ok n me s j at mode else hears_refusal n me s j at mode
+abbrev pub after_append_reply : {C : Type 0} → ℕ → ℕ → Raft C → ℕ → Bool → ℕ → Mode → Raft C
+after_append_reply n me s j ok at mode = if ok then after_append_ok n me s j at mode else after_append_refusal n me s j at mode
 
 -- the match indexes after it, where the leader's log ends at `last`
 abbrev pub match_after : ℕ → ℕ → Bool → ℕ → List ℕ → List ℕ

@@ -3,19 +3,19 @@
 ghost use Rattle.std.specs.Prelude.{◌≡◌, ◌≢◌, ◌+◌, ◌^◌, ◌<◌, ◌≤◌, ◌||◌, nat_le, true, false, List, length, OnOk, OnErr};
 ghost use Rattle.machine_model.specs.declared.entry.Entry.{Entry};
 ghost use Rattle.raft_model.specs.Logs.{has};
-ghost use Rattle.raft_model.specs.Rafts.{is_up, is_leader, met, following, follows_append};
+ghost use Rattle.raft_model.specs.Rafts.{is_up, is_leader, term_observed, following, follows_append};
 ghost use Rattle.raft_model.specs.Steps.{receives};
 ghost use Rattle.raft_model.specs.Messages.{Append as AppendBody};
 ghost use Rattle.raft_core.specs.Inner.Views.{with_server};
-ghost use Rattle.raft_core.specs.Inner.Turns.{TurnTaken, LackedMemory};
-ghost use Rattle.raft_core.specs.RaftView.{KeepsAhead};
+ghost use Rattle.raft_core.specs.Inner.Turns.{TurnTaken, OutOfMemoryTurn};
+ghost use Rattle.raft_core.specs.RaftView.{KeepsProjected};
 
 use super::Raft;
 use crate::release::forget;
 use crate::role::Role;
 use crate::sending::answer;
 use machine::{Coded, Entry, Machine};
-use raft_snapshot::adopt;
+use raft_snapshot::append_entries;
 use rows::{Index, NoMemory, ServerId, Term};
 use wire::{Append, AppendHead, AppendReply, Frames};
 
@@ -23,12 +23,13 @@ impl<M: Machine> Raft<M> {
     /// It follows the sender of an Append or of a snapshot, in the sender's term.
     pub(super) fn follow(&mut self, from: ServerId, term: Term)
         requires { is_up self.old.server.mode ≡ true }
-        ensures { self.new ≡ with_server self.old (following (met term self.old.server) from) }
+        ensures { self.new ≡ with_server self.old (following
+            (term_observed term self.old.server) from) }
     {
-        self.meet(term);
+        self.observe_term(term);
         self.known = Some(from);
         self.role = Role::Follower;
-        forget(&mut self.ahead);
+        forget(&mut self.projected);
     }
 
     /// The entry before those that came is not held: the reply says where to try again.
@@ -44,11 +45,12 @@ impl<M: Machine> Raft<M> {
         requires missing { (nat_le head.now.prev_index self.old.server.commit || has
             self.old.server.log head.now.prev_index head.now.prev_term) ≡ false }
         ensures taken { OnOk result ((entries : List (Entry M.Command)) →
-            TurnTaken M.meaning self.old.base self.old self.new outbox.old outbox.new
-            (follows_append self.old.me (following (met head.now.term self.old.server) from) from
+            TurnTaken M.spec self.old.base self.old self.new outbox.old outbox.new
+            (follows_append self.old.me (following
+            (term_observed head.now.term self.old.server) from) from
             head.now.prev_index head.now.prev_term head.now.commit entries)) }
-        ensures kept { OnOk result (KeepsAhead self.old self.new) }
-        ensures lost { OnErr result (LackedMemory self.old self.new outbox.old outbox.new) }
+        ensures kept { OnOk result (KeepsProjected self.old self.new) }
+        ensures lost { OnErr result (OutOfMemoryTurn self.old self.new outbox.old outbox.new) }
     {
         let last = self.log.last().get();
         let at = (head.prev_index.get() - 1).min(last);
@@ -83,13 +85,14 @@ impl<M: Machine> Raft<M> {
             self.old.server.log head.now.prev_index head.now.prev_term) ≡ true }
         requires places { head.now.prev_index + length entries.items < 2 ^ 40 }
         ensures taken { OnOk result
-            (TurnTaken M.meaning self.old.base self.old self.new outbox.old outbox.new
-            (follows_append self.old.me (following (met head.now.term self.old.server) from) from
+            (TurnTaken M.spec self.old.base self.old self.new outbox.old outbox.new
+            (follows_append self.old.me (following
+            (term_observed head.now.term self.old.server) from) from
             head.now.prev_index head.now.prev_term head.now.commit entries.items)) }
-        ensures kept { OnOk result (KeepsAhead self.old self.new) }
-        ensures lost { OnErr result (LackedMemory self.old self.new outbox.old outbox.new) }
+        ensures kept { OnOk result (KeepsProjected self.old self.new) }
+        ensures lost { OnErr result (OutOfMemoryTurn self.old self.new outbox.old outbox.new) }
     {
-        forget(&mut self.ahead);
+        forget(&mut self.projected);
         let Some(reached) = Index::new(head.prev_index.get() + entries.len() as u64) else {
             unreachable!()
         };
@@ -109,7 +112,7 @@ impl<M: Machine> Raft<M> {
         };
         // The one change of the log comes last, and is whole or not at all.
         let prev = head.prev_index.get();
-        match adopt(&mut self.log, machine, commit, risen.get(), prev, entries) {
+        match append_entries(&mut self.log, machine, commit, risen.get(), prev, entries) {
             Ok(()) => {
                 self.commit = risen;
                 // A candidate needs room for one more entry, which there may not be any more.
@@ -127,7 +130,7 @@ impl<M: Machine> Raft<M> {
 
     /// Entries come, or none: a leader is heard of.
     #[inline(always)]
-    pub(super) fn append(
+    pub(super) fn handle_append(
         &mut self,
         from: ServerId,
         message: Append<M>,
@@ -136,13 +139,13 @@ impl<M: Machine> Raft<M> {
         requires up { is_up self.old.server.mode ≡ true }
         requires other { from ≢ self.old.me }
         ensures taken { OnOk result
-            (TurnTaken M.meaning self.old.base self.old self.new outbox.old outbox.new
-            (receives M.meaning.noop self.old.size self.old.me
-            (met message.head.term self.old.server) from message.head.term
+            (TurnTaken M.spec self.old.base self.old self.new outbox.old outbox.new
+            (receives M.spec.noop self.old.size self.old.me
+            (term_observed message.head.term self.old.server) from message.head.term
             (AppendBody message.head.prev_index message.head.prev_term message.head.commit
             message.entries))) }
-        ensures kept { OnOk result (KeepsAhead self.old self.new) }
-        ensures lost { OnErr result (LackedMemory self.old self.new outbox.old outbox.new) }
+        ensures kept { OnOk result (KeepsProjected self.old self.new) }
+        ensures lost { OnErr result (OutOfMemoryTurn self.old self.new outbox.old outbox.new) }
     {
         let (head, entries) = message.into_parts();
         let (term, its_term) = (self.term.get(), head.term.get());

@@ -11,7 +11,7 @@ ghost use Rattle.raft_snapshot.specs.Bases.{IsBaseOf};
 ghost use Rattle.raft_core.specs.Inner.Beats.{sent_from};
 ghost use Rattle.raft_core.specs.Inner.Moves.{Beats};
 ghost use Rattle.raft_core.specs.Frames.{Sends};
-ghost use Rattle.raft_core.specs.Inner.Turns.{LackedMemory, KeepsFront};
+ghost use Rattle.raft_core.specs.Inner.Turns.{OutOfMemoryTurn, KeepsFront};
 
 use super::Raft;
 use super::votes::server_at;
@@ -45,7 +45,7 @@ fn send_entries<M: Machine>(
     requires other { me ≢ to }
     requires behind { log.now.base.index < next }
     requires most { next ≤ 2 ^ 40 }
-    ensures ok { OnOk result (Sends M.meaning outbox.old outbox.new (record {
+    ensures ok { OnOk result (Sends M.spec outbox.old outbox.new (record {
       from = me;
       to = to;
       term = term;
@@ -80,7 +80,7 @@ fn send_snapshot<M: Machine>(
     requires other { me ≢ to }
     requires some { 1 ≤ log.now.base.index }
     ensures ok { OnOk result ((covered : List (LogEntry M.Command)) →
-        IsBaseOf M.meaning log.now.base covered → Sends M.meaning outbox.old outbox.new
+        IsBaseOf M.spec log.now.base covered → Sends M.spec outbox.old outbox.new
         (record { from = me; to = to; term = term; body = InstallBody covered } ∷ [])) }
     ensures front { KeepsFront outbox.old outbox.new }
     ensures err { OnErr result (outbox.new ≡ outbox.old) }
@@ -109,7 +109,7 @@ fn send_from<M: Machine>(
     requires least { 1 ≤ next }
     requires most { next ≤ 2 ^ 40 }
     ensures ok { OnOk result ((covered : List (LogEntry M.Command)) →
-        IsBaseOf M.meaning log.now.base covered → Sends M.meaning outbox.old outbox.new
+        IsBaseOf M.spec log.now.base covered → Sends M.spec outbox.old outbox.new
         (sent_from me term commit covered log.now.entries next to ∷ [])) }
     ensures front { KeepsFront outbox.old outbox.new }
     ensures err { OnErr result (outbox.new ≡ outbox.old) }
@@ -134,7 +134,7 @@ fn send_to_others<M: Machine>(
     requires least { (j : ℕ) → j < length next.now → 1 ≤ slice_index next.now j }
     requires most { (j : ℕ) → slice_index next.now j ≤ 2 ^ 40 }
     ensures ok { OnOk result ((covered : List (LogEntry M.Command)) →
-        IsBaseOf M.meaning log.now.base covered → Sends M.meaning outbox.old outbox.new
+        IsBaseOf M.spec log.now.base covered → Sends M.spec outbox.old outbox.new
         (to_others me (λ to. sent_from me term commit covered log.now.entries (index_at next.now to) to)
         (length next.now))) }
     ensures err { OnErr result (KeepsFront outbox.old outbox.new) }
@@ -151,11 +151,11 @@ impl<M: Machine> Raft<M> {
     /// A leader sends to each other server; others send nothing, and take no memory.
     pub(super) fn beat(&self, outbox: &mut Frames) -> Result<(), NoMemory>
         requires { is_up self.now.server.mode ≡ true }
-        ensures taken { OnOk result (Beats M.meaning self.now outbox.old outbox.new) }
+        ensures taken { OnOk result (Beats M.spec self.now outbox.old outbox.new) }
         ensures lost { OnErr result ((is_leader self.now.server.mode ≡ true)
-            × LackedMemory self.now self.now outbox.old outbox.new) }
+            × OutOfMemoryTurn self.now self.now outbox.old outbox.new) }
     {
-        self.shown();
+        self.covered_is_committed();
         match self.role {
             Role::Follower => Ok(()),
             Role::Candidate => Ok(()),

@@ -2,16 +2,16 @@
 
 ghost use Rattle.std.specs.Prelude.{◌≡◌, ◌≢◌, ◌<◌, true, None, OnOk, OnErr, IfOk, IfErr, IfSome, Some};
 ghost use Rattle.rows.specs.declared.actor.Actor.TheVariants as actors;
-ghost use Rattle.raft_model.specs.Rafts.{Raft as AnyRaft, is_up, is_leader, met};
+ghost use Rattle.raft_model.specs.Rafts.{Raft as AnyRaft, is_up, is_leader, term_observed};
 ghost use Rattle.raft_model.specs.Steps.{receives};
 ghost use Rattle.wire.specs.Messages.{log_body};
 ghost use Rattle.raft_core.specs.Frames.{log_message};
-ghost use Rattle.raft_core.specs.Steps.{Represents, TakesMessage};
-ghost use Rattle.raft_core.specs.Inner.Turns.{TurnTaken, LackedMemory};
+ghost use Rattle.raft_core.specs.Steps.{Refines, TakesMessage};
+ghost use Rattle.raft_core.specs.Inner.Turns.{TurnTaken, OutOfMemoryTurn};
 ghost use Rattle.raft_core.specs.Inner.Moves.{MovesMessage, MovesFrame, WasRead, base_left};
 ghost use Rattle.raft_core.specs.Inner.Stops.{FrameStops, MessageStops};
 ghost use Rattle.raft_core.specs.Refusals.{frame_refusal, misdirected, message_fault, message_refusal, IsMessageRefused, MessageRefusalLeaves, MessageStays, RefusalShows};
-ghost use Rattle.raft_core.specs.RaftView.{SameNumber, KeepsAhead};
+ghost use Rattle.raft_core.specs.RaftView.{SameNumber, KeepsProjected};
 ghost use Rattle.raft_snapshot.specs.Watching.{SeesStep, ShowsStep};
 
 use super::Raft;
@@ -25,7 +25,7 @@ use wire::{
 impl<M: Machine> Raft<M> {
     /// What another server of the group says is taken.
     #[inline(always)]
-    fn take_body<W: Watch<M>>(
+    fn handle_body<W: Watch<M>>(
         &mut self,
         from: ServerId,
         body: LogBody<M>,
@@ -35,23 +35,23 @@ impl<M: Machine> Raft<M> {
         requires up { is_up self.old.server.mode ≡ true }
         requires member { from < self.old.size }
         requires other { from ≢ self.old.me }
-        ensures taken { OnOk result (IfSome (log_message M.meaning from self.old.me (log_body body)) (λ x.
-            TurnTaken M.meaning (base_left self.old (log_body body)) self.old self.new
-            outbox.old outbox.new (receives M.meaning.noop self.old.size self.old.me (met x.term self.old.server)
+        ensures taken { OnOk result (IfSome (log_message M.spec from self.old.me (log_body body)) (λ x.
+            TurnTaken M.spec (base_left self.old (log_body body)) self.old self.new
+            outbox.old outbox.new (receives M.spec.noop self.old.size self.old.me (term_observed x.term self.old.server)
             from x.term x.body))) }
-        ensures kept { OnOk result (KeepsAhead self.old self.new) }
+        ensures kept { OnOk result (KeepsProjected self.old self.new) }
         ensures led { OnOk result (is_leader self.new.server.mode ≡ true →
             self.new.base ≡ self.old.base) }
-        ensures seen { OnOk result (ShowsStep M.meaning W.sees self.old.base self.old.server
+        ensures seen { OnOk result (ShowsStep M.spec W.sees self.old.base self.old.server
             self.new.server watch.old watch.new) }
-        ensures lost { OnErr result (LackedMemory self.old self.new outbox.old outbox.new) }
+        ensures lost { OnErr result (OutOfMemoryTurn self.old self.new outbox.old outbox.new) }
     {
         match body {
-            LogBody::VoteRequest(request) => self.vote_request(from, &request, outbox),
-            LogBody::VoteReply(reply) => self.vote_reply(from, &reply),
-            LogBody::Append(append) => self.append(from, append, outbox),
-            LogBody::AppendReply(reply) => self.append_reply(from, &reply, watch),
-            LogBody::Install(install) => self.install(from, install, outbox),
+            LogBody::VoteRequest(request) => self.handle_vote_request(from, &request, outbox),
+            LogBody::VoteReply(reply) => self.handle_vote_reply(from, &reply),
+            LogBody::Append(append) => self.handle_append(from, append, outbox),
+            LogBody::AppendReply(reply) => self.handle_append_reply(from, &reply, watch),
+            LogBody::Install(install) => self.handle_install(from, install, outbox),
             LogBody::InstallReply(reply) => {
                 // It counts as an ok.
                 let reply = AppendReply {
@@ -60,7 +60,7 @@ impl<M: Machine> Raft<M> {
                     ok: true,
                     at: reply.at,
                 };
-                self.append_reply(from, &reply, watch)
+                self.handle_append_reply(from, &reply, watch)
             }
         }
     }
@@ -87,7 +87,7 @@ impl<M: Machine> Raft<M> {
 
     /// A message comes to a server that is up.
     #[inline(always)]
-    fn take_message<W: Watch<M>>(
+    fn handle_message<W: Watch<M>>(
         &mut self,
         message: LogMessage<M>,
         outbox: &mut Frames,
@@ -96,20 +96,20 @@ impl<M: Machine> Raft<M> {
         requires { is_up self.old.server.mode ≡ true }
         ensures same { SameNumber self.old self.new }
         ensures taken { OnOk result
-            (MovesMessage M.meaning self.old message self.new outbox.old outbox.new) }
+            (MovesMessage M.spec self.old message self.new outbox.old outbox.new) }
         ensures admitted { OnOk result
             (message_fault self.old.size self.old.me message ≡ None) }
-        ensures kept { OnOk result (KeepsAhead self.old self.new) }
+        ensures kept { OnOk result (KeepsProjected self.old self.new) }
         ensures stopped { IfErr result (λ cause.
             MessageStops self.old message cause self.new outbox.old outbox.new) }
         ensures led { OnOk result (is_leader self.new.server.mode ≡ true →
             self.new.base ≡ self.old.base) }
-        ensures seen { OnOk result (ShowsStep M.meaning W.sees self.old.base self.old.server
+        ensures seen { OnOk result (ShowsStep M.spec W.sees self.old.base self.old.server
             self.new.server watch.old watch.new) }
         ensures unseen { IfErr result (λ cause. RefusalShows cause watch.old watch.new) }
     {
         let from = self.sender(&message)?;
-        self.take_body(from, message.into_body(), outbox, watch)?;
+        self.handle_body(from, message.into_body(), outbox, watch)?;
         Ok(())
     }
 
@@ -128,32 +128,32 @@ impl<M: Machine> Raft<M> {
         watch: &mut W,
     ) -> Result<(), Refusal>
         ensures same { SameNumber self.old self.new }
-        ensures taken { OnOk result ((s : AnyRaft M.Command) → Represents M.meaning self.old s →
-            TakesMessage M.meaning self.old s message self.new outbox.old outbox.new) }
-        ensures admitted { OnOk result ((s : AnyRaft M.Command) → Represents M.meaning self.old s →
+        ensures taken { OnOk result ((s : AnyRaft M.Command) → Refines M.spec self.old s →
+            TakesMessage M.spec self.old s message self.new outbox.old outbox.new) }
+        ensures admitted { OnOk result ((s : AnyRaft M.Command) → Refines M.spec self.old s →
             message_refusal self.old.size self.old.me s message ≡ None) }
-        ensures kept { OnOk result (KeepsAhead self.old self.new) }
+        ensures kept { OnOk result (KeepsProjected self.old self.new) }
         ensures refused { IfErr result (λ cause. (s : AnyRaft M.Command) →
-            Represents M.meaning self.old s →
+            Refines M.spec self.old s →
             IsMessageRefused self.old.size self.old.me s message cause) }
         ensures left { IfErr result (λ cause. (s : AnyRaft M.Command) →
-            Represents M.meaning self.old s →
-            MessageRefusalLeaves M.meaning self.old s cause self.new) }
+            Refines M.spec self.old s →
+            MessageRefusalLeaves M.spec self.old s cause self.new) }
         ensures stays { IfErr result (λ cause. MessageStays cause self.old self.new) }
         ensures unsent { OnErr result (outbox.new ≡ outbox.old) }
         ensures seen { OnOk result ((s next : AnyRaft M.Command) →
-            Represents M.meaning self.old s → Represents M.meaning self.new next →
-            SeesStep M.meaning W.sees s next watch.old watch.new) }
+            Refines M.spec self.old s → Refines M.spec self.new next →
+            SeesStep M.spec W.sees s next watch.old watch.new) }
         ensures unseen { IfErr result (λ cause. RefusalShows cause watch.old watch.new) }
     {
         if !self.is_up() {
             return Err(Refusal::Down);
         }
         let before = outbox.len();
-        self.shown();
-        match self.take_message(message, outbox, watch) {
+        self.covered_is_committed();
+        match self.handle_message(message, outbox, watch) {
             Ok(()) => {
-                self.shown();
+                self.covered_is_committed();
                 Ok(())
             }
             Err(cause) => match cause {
@@ -169,7 +169,7 @@ impl<M: Machine> Raft<M> {
 
     /// A frame comes to a server that is up.
     #[tactic(auto, using(crate::proofs::Telling::was_read))]
-    pub(super) fn take_frame<W: Watch<M>>(
+    pub(super) fn handle_frame<W: Watch<M>>(
         &mut self,
         bytes: &[u8],
         outbox: &mut Frames,
@@ -178,16 +178,16 @@ impl<M: Machine> Raft<M> {
         requires { is_up self.old.server.mode ≡ true }
         ensures same { SameNumber self.old self.new }
         ensures taken { OnOk result
-            (MovesFrame M.meaning self.old bytes.now self.new outbox.old outbox.new) }
-        ensures admitted { OnOk result (frame_refusal M.meaning self.old.size self.old.me bytes.now
+            (MovesFrame M.spec self.old bytes.now self.new outbox.old outbox.new) }
+        ensures admitted { OnOk result (frame_refusal M.spec self.old.size self.old.me bytes.now
             ≡ None) }
-        ensures read { OnOk result (WasRead M.meaning bytes.now) }
-        ensures kept { OnOk result (KeepsAhead self.old self.new) }
+        ensures read { OnOk result (WasRead M.spec bytes.now) }
+        ensures kept { OnOk result (KeepsProjected self.old self.new) }
         ensures stopped { IfErr result (λ cause.
-            FrameStops M.meaning self.old bytes.now cause self.new outbox.old outbox.new) }
+            FrameStops M.spec self.old bytes.now cause self.new outbox.old outbox.new) }
         ensures led { OnOk result (is_leader self.new.server.mode ≡ true →
             self.new.base ≡ self.old.base) }
-        ensures seen { OnOk result (ShowsStep M.meaning W.sees self.old.base self.old.server
+        ensures seen { OnOk result (ShowsStep M.spec W.sees self.old.base self.old.server
             self.new.server watch.old watch.new) }
         ensures unseen { IfErr result (λ cause. RefusalShows cause watch.old watch.new) }
     {
@@ -197,6 +197,6 @@ impl<M: Machine> Raft<M> {
             return Err(Refusal::Frame(1));
         }
         let message = read_log_message::<M>(self.alloc, bytes)?;
-        self.take_message(message, outbox, watch)
+        self.handle_message(message, outbox, watch)
     }
 }

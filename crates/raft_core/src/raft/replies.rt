@@ -1,13 +1,13 @@
 //! Answers to what a leader sent. (Raft, extended version 2014, section 5.3, and section 5.4.2.)
 
 ghost use Rattle.std.specs.Prelude.{◌≡◌, ◌^◌, ◌<◌, true, length, max, min, suc, ◌-◌, nat_le, if◌then◌else◌, slice_set, OnOk, OnErr};
-ghost use Rattle.raft_model.specs.Rafts.{is_up, met, crashed};
+ghost use Rattle.raft_model.specs.Rafts.{is_up, term_observed, crashed};
 ghost use Rattle.raft_model.specs.Steps.{receives};
 ghost use Rattle.raft_model.specs.Messages.{AppendReply as AppendReplyBody};
 ghost use Rattle.raft_model.specs.Quorums.{index_at};
-ghost use Rattle.raft_core.specs.Inner.Replies.{hears_either, next_after, match_after};
+ghost use Rattle.raft_core.specs.Inner.Replies.{after_append_reply, next_after, match_after};
 ghost use Rattle.raft_core.specs.Inner.Turns.{SameBase};
-ghost use Rattle.raft_core.specs.RaftView.{KeepsAhead};
+ghost use Rattle.raft_core.specs.RaftView.{KeepsProjected};
 ghost use Rattle.raft_snapshot.specs.Watching.{ShowsStep};
 
 use super::Raft;
@@ -54,7 +54,14 @@ fn back_off(next: &mut [u64], matched: &[u64], from: ServerId, at: Index)
 }
 
 /// What an answer tells of another server's log.
-fn learn(next: &mut [u64], matched: &mut [u64], last: u64, from: ServerId, ok: bool, at: Index)
+fn update_progress(
+    next: &mut [u64],
+    matched: &mut [u64],
+    last: u64,
+    from: ServerId,
+    ok: bool,
+    at: Index,
+)
     requires next_each { from < length next.old }
     requires matched_each { from < length matched.old }
     requires level { index_at matched.old from < 2 ^ 40 }
@@ -71,7 +78,7 @@ fn learn(next: &mut [u64], matched: &mut [u64], last: u64, from: ServerId, ok: b
 impl<M: Machine> Raft<M> {
     /// A leader hears what another server holds, or that it refuses; then its commit index rises.
     #[inline(always)]
-    fn hear<W: Watch<M>>(
+    fn record_reply<W: Watch<M>>(
         &mut self,
         from: ServerId,
         ok: bool,
@@ -82,9 +89,9 @@ impl<M: Machine> Raft<M> {
         requires member { from < self.old.size }
         ensures same { SameBase self.old self.new }
         ensures heard { OnOk result (self.new.server
-            ≡ hears_either self.old.size self.old.me self.old.server from ok at self.old.server.mode) }
-        ensures kept { OnOk result (KeepsAhead self.old self.new) }
-        ensures seen { OnOk result (ShowsStep M.meaning W.sees self.old.base self.old.server
+            ≡ after_append_reply self.old.size self.old.me self.old.server from ok at self.old.server.mode) }
+        ensures kept { OnOk result (KeepsProjected self.old self.new) }
+        ensures seen { OnOk result (ShowsStep M.spec W.sees self.old.base self.old.server
             self.new.server watch.old watch.new) }
         ensures lost { OnErr result (crashed self.new.server ≡ crashed self.old.server) }
     {
@@ -96,7 +103,7 @@ impl<M: Machine> Raft<M> {
                     unreachable!()
                 };
                 let last = self.log.last().get();
-                learn(&mut self.next, &mut self.matched, last, from, ok, at);
+                update_progress(&mut self.next, &mut self.matched, last, from, ok, at);
                 let Some(machine) = &mut self.machine else {
                     unreachable!()
                 };
@@ -110,7 +117,7 @@ impl<M: Machine> Raft<M> {
                     Err(lacking) => {
                         // The machine may have been brought on in part: the server is down.
                         forget(&mut self.machine);
-                        forget(&mut self.ahead);
+                        forget(&mut self.projected);
                         Err(lacking)
                     }
                 }
@@ -121,7 +128,7 @@ impl<M: Machine> Raft<M> {
     /// An answer to an Append counts where it answers one of this term, and the server leads.
     #[tactic(auto, using(crate::proofs::Keeps::kept_by_view))]
     #[inline(always)]
-    pub(super) fn append_reply<W: Watch<M>>(
+    pub(super) fn handle_append_reply<W: Watch<M>>(
         &mut self,
         from: ServerId,
         reply: &AppendReply,
@@ -131,21 +138,21 @@ impl<M: Machine> Raft<M> {
         requires member { from < self.old.size }
         ensures same { SameBase self.old self.new }
         ensures taken { OnOk result (self.new.server
-            ≡ (receives M.meaning.noop self.old.size self.old.me
-            (met reply.now.term self.old.server) from reply.now.term
+            ≡ (receives M.spec.noop self.old.size self.old.me
+            (term_observed reply.now.term self.old.server) from reply.now.term
             (AppendReplyBody reply.now.asked reply.now.ok reply.now.at)).server) }
-        ensures kept { OnOk result (KeepsAhead self.old self.new) }
-        ensures seen { OnOk result (ShowsStep M.meaning W.sees self.old.base self.old.server
+        ensures kept { OnOk result (KeepsProjected self.old self.new) }
+        ensures seen { OnOk result (ShowsStep M.spec W.sees self.old.base self.old.server
             self.new.server watch.old watch.new) }
         ensures lost { OnErr result (crashed self.new.server ≡ crashed self.old.server) }
     {
         if self.term.get() < reply.term.get() {
-            self.meet(reply.term);
+            self.observe_term(reply.term);
             return Ok(());
         }
         if reply.asked.get() != self.term.get() {
             return Ok(());
         }
-        self.hear(from, reply.ok, reply.at, watch)
+        self.record_reply(from, reply.ok, reply.at, watch)
     }
 }

@@ -2,15 +2,15 @@
 //! log that lacks it. (Raft, extended version 2014, section 7, and Figure 13.)
 
 ghost use Rattle.std.specs.Prelude.{◌≡◌, ◌≢◌, ◌<◌, ◌≤◌, true, false, OnOk, OnErr};
-ghost use Rattle.raft_model.specs.Rafts.{is_up, is_leader, met, following, installed};
+ghost use Rattle.raft_model.specs.Rafts.{is_up, is_leader, term_observed, following, installed};
 ghost use Rattle.raft_model.specs.Steps.{receives};
 ghost use Rattle.raft_model.specs.Messages.{Install as InstallBody};
-ghost use Rattle.raft_snapshot.specs.Bases.{blank};
-ghost use Rattle.raft_snapshot.specs.Shown.{base_after};
+ghost use Rattle.raft_snapshot.specs.Bases.{noop_prefix};
+ghost use Rattle.raft_snapshot.specs.Compacted.{base_after};
 ghost use Rattle.raft_core.specs.Frames.{base_of};
 ghost use Rattle.raft_core.specs.Inner.Moves.{Compacts};
-ghost use Rattle.raft_core.specs.Inner.Turns.{TurnTaken, LackedMemory};
-ghost use Rattle.raft_core.specs.RaftView.{SameNumber, KeepsAhead};
+ghost use Rattle.raft_core.specs.Inner.Turns.{TurnTaken, OutOfMemoryTurn};
+ghost use Rattle.raft_core.specs.RaftView.{SameNumber, KeepsProjected};
 
 use super::Raft;
 use crate::release::forget;
@@ -24,24 +24,29 @@ use wire::{Body, Frames, Install, InstallHead, InstallReply};
 impl<M: Machine> Raft<M> {
     /// A snapshot above the commit index takes the place of the log up to its index, and is
     /// applied; what follows it in the log stays where the log holds its last entry.
-    fn take_over(&mut self, from: ServerId, head: &InstallHead, state: M) -> Result<(), NoMemory>
+    fn restore_snapshot(
+        &mut self,
+        from: ServerId,
+        head: &InstallHead,
+        state: M,
+    ) -> Result<(), NoMemory>
         requires up { is_up self.old.server.mode ≡ true }
         requires later { self.old.server.term ≤ head.now.term }
-        requires counted { M.meaning.count state ≡ head.now.index }
+        requires counted { M.spec.count state ≡ head.now.index }
         requires above { self.old.server.commit < head.now.index }
         ensures same { SameNumber self.old self.new }
         ensures base { OnOk result (self.new.base
             ≡ record { index = head.now.index; term = head.now.index_term; state = state }) }
         ensures server { OnOk result (self.new.server
-            ≡ installed (following (met head.now.term self.old.server) from)
-            (blank M.meaning head.now.index head.now.index_term)) }
+            ≡ installed (following (term_observed head.now.term self.old.server) from)
+            (noop_prefix M.spec head.now.index head.now.index_term)) }
         ensures lost { OnErr result (self.new ≡ self.old) }
     {
         let machine = state.fork()?;
         let Some(snapshot) = Snapshot::new(head.index, head.index_term, state) else {
             unreachable!()
         };
-        forget(&mut self.ahead);
+        forget(&mut self.projected);
         // A candidate needs room for one more entry, which there may not be any more.
         self.role = Role::Follower;
         self.log.install(snapshot);
@@ -65,16 +70,16 @@ impl<M: Machine> Raft<M> {
         requires later { self.old.server.term ≤ head.now.term }
         requires follows { self.old.server.term ≡ head.now.term →
             is_leader self.old.server.mode ≡ false }
-        requires counted { M.meaning.count state ≡ head.now.index }
-        ensures taken { OnOk result (TurnTaken M.meaning
+        requires counted { M.spec.count state ≡ head.now.index }
+        ensures taken { OnOk result (TurnTaken M.spec
             (base_after self.old.base self.old.server head.now.term
             (record { index = head.now.index; term = head.now.index_term; state = state }))
             self.old self.new outbox.old outbox.new
-            (receives M.meaning.noop self.old.size self.old.me
-            (met head.now.term self.old.server) from head.now.term
-            (InstallBody (blank M.meaning head.now.index head.now.index_term)))) }
+            (receives M.spec.noop self.old.size self.old.me
+            (term_observed head.now.term self.old.server) from head.now.term
+            (InstallBody (noop_prefix M.spec head.now.index head.now.index_term)))) }
         ensures led { OnOk result (is_leader self.new.server.mode ≡ false) }
-        ensures lost { OnErr result (LackedMemory self.old self.new outbox.old outbox.new) }
+        ensures lost { OnErr result (OutOfMemoryTurn self.old self.new outbox.old outbox.new) }
     {
         let reply = InstallReply {
             term: head.term,
@@ -86,12 +91,12 @@ impl<M: Machine> Raft<M> {
             self.follow(from, head.term);
             return Ok(());
         }
-        self.take_over(from, head, state)
+        self.restore_snapshot(from, head, state)
     }
 
     /// A snapshot comes. It is large: so this stands apart from what other messages go through.
     #[inline(never)]
-    pub(super) fn install(
+    pub(super) fn handle_install(
         &mut self,
         from: ServerId,
         message: Box<Install<M>>,
@@ -99,14 +104,14 @@ impl<M: Machine> Raft<M> {
     ) -> Result<(), NoMemory>
         requires up { is_up self.old.server.mode ≡ true }
         requires other { from ≢ self.old.me }
-        ensures taken { OnOk result (TurnTaken M.meaning
+        ensures taken { OnOk result (TurnTaken M.spec
             (base_after self.old.base self.old.server message.value.head.term (base_of message.value))
             self.old self.new outbox.old outbox.new
-            (receives M.meaning.noop self.old.size self.old.me
-            (met message.value.head.term self.old.server) from message.value.head.term
-            (InstallBody (blank M.meaning message.value.head.index message.value.head.index_term)))) }
+            (receives M.spec.noop self.old.size self.old.me
+            (term_observed message.value.head.term self.old.server) from message.value.head.term
+            (InstallBody (noop_prefix M.spec message.value.head.index message.value.head.index_term)))) }
         ensures led { OnOk result (is_leader self.new.server.mode ≡ true → self.new ≡ self.old) }
-        ensures lost { OnErr result (LackedMemory self.old self.new outbox.old outbox.new) }
+        ensures lost { OnErr result (OutOfMemoryTurn self.old self.new outbox.old outbox.new) }
     {
         let (head, state) = Box::into_inner(message).into_parts();
         let (term, its_term) = (self.term.get(), head.term.get());
@@ -129,11 +134,11 @@ impl<M: Machine> Raft<M> {
     pub(super) fn compact(&mut self) -> Result<(), NoMemory>
         requires { is_up self.old.server.mode ≡ true }
         ensures same { SameNumber self.old self.new }
-        ensures taken { OnOk result (Compacts M.meaning self.old self.new) }
-        ensures kept { OnOk result (KeepsAhead self.old self.new) }
+        ensures taken { OnOk result (Compacts M.spec self.old self.new) }
+        ensures kept { OnOk result (KeepsProjected self.old self.new) }
         ensures lost { OnErr result (self.new ≡ self.old) }
     {
-        self.shown();
+        self.covered_is_committed();
         if self.commit.get() == self.log.covered().get() {
             return Ok(());
         }

@@ -3,7 +3,7 @@
 ghost use Rattle.std.specs.Prelude.{◌≡◌, ◌≤◌, ◌++◌, length, IfOk, OnOk, OnErr};
 ghost use Rattle.rows.specs.Versions.{newest};
 ghost use Rattle.raft_model.specs.Rafts.{Raft as AnyRaft};
-ghost use Rattle.raft_core.specs.Steps.{Represents, Stores};
+ghost use Rattle.raft_core.specs.Steps.{Refines, Stores};
 ghost use Rattle.raft_core.specs.StoredParts.{stored_part};
 ghost use Rattle.raft_snapshot.specs.Changes.{log_change};
 ghost use Rattle.raft_snapshot.specs.Texts.{front, stable_text, StableFits};
@@ -19,9 +19,9 @@ impl<M: Machine> Raft<M> {
     pub fn stable(&self) -> Result<Stable<M>, NoMemory>
         ensures shown { IfOk result (λ copy. copy ≡ stored_part self.now) }
         ensures stored { IfOk result (λ copy. (s : AnyRaft M.Command) →
-            Represents M.meaning self.now s → Stores M.meaning copy s) }
+            Refines M.spec self.now s → Stores M.spec copy s) }
     {
-        self.shown();
+        self.covered_is_committed();
         let log = self.log.copied(self.alloc)?;
         Ok(Stable::from_parts(self.term, self.vote, log))
     }
@@ -29,9 +29,9 @@ impl<M: Machine> Raft<M> {
     /// Puts the text of what it stores to the end, as `write_stable` puts it, or changes nothing.
     /// It copies nothing of it.
     pub fn write_stable(&self, out: &mut Vec<u8>) -> Result<(), NoMemory>
-        ensures ok { OnOk result (StableFits M.meaning newest (stored_part self.now)
+        ensures ok { OnOk result (StableFits M.spec newest (stored_part self.now)
             × (out.new.items
-            ≡ out.old.items ++ stable_text M.meaning newest (stored_part self.now))) }
+            ≡ out.old.items ++ stable_text M.spec newest (stored_part self.now))) }
         ensures err { OnErr result (out.new.items ≡ out.old.items) }
     {
         write_parts(self.term, self.vote, &self.log, out)
@@ -44,9 +44,9 @@ impl<M: Machine> Raft<M> {
         requires within { keep ≤ length self.now.server.log }
         ensures ok { let s = stored_part self.now in
             let change = log_change s.term s.vote s.log keep in
-            OnOk result ((front (M.meaning.commands newest)).Fits change
+            OnOk result ((front (M.spec.commands newest)).Fits change
             × (out.new.items
-            ≡ out.old.items ++ (front (M.meaning.commands newest)).text change)) }
+            ≡ out.old.items ++ (front (M.spec.commands newest)).text change)) }
         ensures err { OnErr result (out.new.items ≡ out.old.items) }
     {
         write_change(self.term, self.vote, &self.log, keep, out)

@@ -1,7 +1,7 @@
 //! Elections. (Raft, section 5.2, and section 5.4.1.)
 
 ghost use Rattle.std.specs.Prelude.{◌≡◌, ◌≢◌, ◌+◌, ◌^◌, ◌<◌, ◌≤◌, true, length, None, OnOk, OnErr, IfErr};
-ghost use Rattle.raft_model.specs.Rafts.{is_up, met, grants, stood, vote_request_to, counted, won, crashed};
+ghost use Rattle.raft_model.specs.Rafts.{is_up, term_observed, grants, election_started, vote_request_to, counted, won, crashed};
 ghost use Rattle.raft_model.specs.Steps.{receives, Timeout};
 ghost use Rattle.raft_model.specs.Messages.{to_others, VoteRequest as VoteRequestBody, VoteReply as VoteReplyBody};
 ghost use Rattle.raft_model.specs.Quorums.{count, is_quorum, marked};
@@ -10,8 +10,8 @@ ghost use Rattle.raft_core.specs.Inputs.{Own};
 ghost use Rattle.raft_core.specs.Refusals.{refusal, HidesNothing};
 ghost use Rattle.raft_core.specs.Inner.Moves.{Moves};
 ghost use Rattle.raft_core.specs.Inner.Stops.{EndsRefused};
-ghost use Rattle.raft_core.specs.Inner.Turns.{SameBase, TurnTaken, LackedMemory, KeepsFront};
-ghost use Rattle.raft_core.specs.RaftView.{SameNumber, KeepsAhead};
+ghost use Rattle.raft_core.specs.Inner.Turns.{SameBase, TurnTaken, OutOfMemoryTurn, KeepsFront};
+ghost use Rattle.raft_core.specs.RaftView.{SameNumber, KeepsProjected};
 
 use super::Raft;
 use crate::role::Role;
@@ -62,7 +62,7 @@ fn ask<M: Machine>(
     outbox: &mut Frames,
 ) -> Result<(), NoMemory>
     requires { size ≤ 5 }
-    ensures ok { OnOk result (Sends M.meaning outbox.old outbox.new
+    ensures ok { OnOk result (Sends M.spec outbox.old outbox.new
         (to_others me (λ to. record {
           from = me;
           to = to;
@@ -84,7 +84,8 @@ impl<M: Machine> Raft<M> {
     /// Whether a request gets this server's vote.
     fn may_grant(&self, from: ServerId, request: &VoteRequest) -> bool
         requires { is_up self.now.server.mode ≡ true }
-        ensures { result ≡ grants (met request.now.term self.now.server) from request.now.term
+        ensures { result ≡ grants
+            (term_observed request.now.term self.now.server) from request.now.term
             request.now.last_index request.now.last_term }
     {
         let last_term = self.log.last_term().get();
@@ -102,7 +103,7 @@ impl<M: Machine> Raft<M> {
     /// Its term, once it has met that of a message.
     fn later(&self, term: Term) -> Term
         requires { is_up self.now.server.mode ≡ true }
-        ensures { result ≡ (met term self.now.server).term }
+        ensures { result ≡ (term_observed term self.now.server).term }
     {
         if self.term.get() < term.get() {
             term
@@ -112,7 +113,7 @@ impl<M: Machine> Raft<M> {
     }
 
     /// A request for a vote is answered.
-    pub(super) fn vote_request(
+    pub(super) fn handle_vote_request(
         &mut self,
         from: ServerId,
         request: &VoteRequest,
@@ -121,12 +122,12 @@ impl<M: Machine> Raft<M> {
         requires up { is_up self.old.server.mode ≡ true }
         requires other { from ≢ self.old.me }
         ensures taken { OnOk result
-            (TurnTaken M.meaning self.old.base self.old self.new outbox.old outbox.new
-            (receives M.meaning.noop self.old.size self.old.me
-            (met request.now.term self.old.server) from request.now.term
+            (TurnTaken M.spec self.old.base self.old self.new outbox.old outbox.new
+            (receives M.spec.noop self.old.size self.old.me
+            (term_observed request.now.term self.old.server) from request.now.term
             (VoteRequestBody request.now.last_index request.now.last_term))) }
-        ensures kept { OnOk result (KeepsAhead self.old self.new) }
-        ensures lost { OnErr result (LackedMemory self.old self.new outbox.old outbox.new) }
+        ensures kept { OnOk result (KeepsProjected self.old self.new) }
+        ensures lost { OnErr result (OutOfMemoryTurn self.old self.new outbox.old outbox.new) }
     {
         let granted = self.may_grant(from, request);
         let asked = request.term;
@@ -137,7 +138,7 @@ impl<M: Machine> Raft<M> {
             granted,
         };
         send::<M>(outbox, self.me, from, Body::VoteReply(reply))?;
-        self.meet(asked);
+        self.observe_term(asked);
         if granted {
             self.vote = Some(from);
         }
@@ -146,16 +147,16 @@ impl<M: Machine> Raft<M> {
 
     /// It leads, and appends a no-op of its term.
     #[inline(never)]
-    fn lead(&mut self) -> Result<(), NoMemory>
+    fn become_leader(&mut self) -> Result<(), NoMemory>
         requires up { is_up self.old.server.mode ≡ true }
         requires elected { 1 ≤ self.old.server.term }
         requires index_left { length self.old.server.log + 1 < 2 ^ 40 }
         ensures same { SameBase self.old self.new }
         ensures won { OnOk result (self.new.server
-            ≡ won M.meaning.noop self.old.size self.old.server) }
+            ≡ won M.spec.noop self.old.size self.old.server) }
         ensures lost { OnErr result (crashed self.new.server ≡ crashed self.old.server) }
     {
-        self.ahead = None;
+        self.projected = None;
         let first = self.log.last().get() + 1;
         self.next.fill(first);
         self.matched.fill(0);
@@ -173,8 +174,8 @@ impl<M: Machine> Raft<M> {
         requires member { from < self.old.size }
         ensures same { SameBase self.old self.new }
         ensures counted { OnOk result (self.new.server
-            ≡ counted M.meaning.noop self.old.size self.old.server from self.old.server.mode) }
-        ensures kept { OnOk result (KeepsAhead self.old self.new) }
+            ≡ counted M.spec.noop self.old.size self.old.server from self.old.server.mode) }
+        ensures kept { OnOk result (KeepsProjected self.old self.new) }
         ensures lost { OnErr result (crashed self.new.server ≡ crashed self.old.server) }
     {
         match self.role {
@@ -185,26 +186,30 @@ impl<M: Machine> Raft<M> {
                 if !is_quorum(&self.votes) {
                     return Ok(());
                 }
-                self.lead()
+                self.become_leader()
             }
         }
     }
 
     /// The answer to a request for a vote counts where it answers one of this term.
     #[tactic(auto, using(crate::proofs::Keeps::kept_by_view))]
-    pub(super) fn vote_reply(&mut self, from: ServerId, reply: &VoteReply) -> Result<(), NoMemory>
+    pub(super) fn handle_vote_reply(
+        &mut self,
+        from: ServerId,
+        reply: &VoteReply,
+    ) -> Result<(), NoMemory>
         requires up { is_up self.old.server.mode ≡ true }
         requires member { from < self.old.size }
         ensures same { SameBase self.old self.new }
         ensures taken { OnOk result (self.new.server
-            ≡ (receives M.meaning.noop self.old.size self.old.me
-            (met reply.now.term self.old.server) from reply.now.term
+            ≡ (receives M.spec.noop self.old.size self.old.me
+            (term_observed reply.now.term self.old.server) from reply.now.term
             (VoteReplyBody reply.now.asked reply.now.granted)).server) }
-        ensures kept { OnOk result (KeepsAhead self.old self.new) }
+        ensures kept { OnOk result (KeepsProjected self.old self.new) }
         ensures lost { OnErr result (crashed self.new.server ≡ crashed self.old.server) }
     {
         if self.term.get() < reply.term.get() {
-            self.meet(reply.term);
+            self.observe_term(reply.term);
             return Ok(());
         }
         if reply.asked.get() == self.term.get() && reply.granted {
@@ -215,20 +220,20 @@ impl<M: Machine> Raft<M> {
 
     /// It stands in the next term, with its own vote, and asks all others for theirs.
     #[inline(never)]
-    pub(super) fn stand(&mut self, outbox: &mut Frames) -> Result<(), NoMemory>
+    pub(super) fn start_election(&mut self, outbox: &mut Frames) -> Result<(), NoMemory>
         requires up { is_up self.old.server.mode ≡ true }
         requires term { self.old.server.term + 1 < 2 ^ 40 }
         requires index_left { length self.old.server.log + 1 < 2 ^ 40 }
         ensures taken { OnOk result
-            (TurnTaken M.meaning self.old.base self.old self.new outbox.old outbox.new
+            (TurnTaken M.spec self.old.base self.old self.new outbox.old outbox.new
             (record {
-              server = stood self.old.size self.old.me self.old.server;
+              server = election_started self.old.size self.old.me self.old.server;
               sent = to_others
-                  self.old.me (vote_request_to self.old.me (stood self.old.size self.old.me self.old.server))
+                  self.old.me (vote_request_to self.old.me (election_started self.old.size self.old.me self.old.server))
                   self.old.size;
             })) }
-        ensures kept { OnOk result (KeepsAhead self.old self.new) }
-        ensures lost { OnErr result (LackedMemory self.old self.new outbox.old outbox.new) }
+        ensures kept { OnOk result (KeepsProjected self.old self.new) }
+        ensures lost { OnErr result (OutOfMemoryTurn self.old self.new outbox.old outbox.new) }
     {
         let term = self.term.next();
         let request = VoteRequest {
@@ -237,7 +242,7 @@ impl<M: Machine> Raft<M> {
             last_term: self.log.last_term(),
         };
         ask::<M>(self.me, self.size, &request, outbox)?;
-        self.ahead = None;
+        self.projected = None;
         self.term = term;
         self.vote = Some(self.me);
         self.known = None;
@@ -252,13 +257,13 @@ impl<M: Machine> Raft<M> {
         requires { is_up self.old.server.mode ≡ true }
         ensures same { SameNumber self.old self.new }
         ensures taken { OnOk result (
-            Moves M.meaning self.old.base self.old Timeout self.new outbox.old outbox.new) }
+            Moves M.spec self.old.base self.old Timeout self.new outbox.old outbox.new) }
         ensures admitted { OnOk result (
-            refusal M.meaning self.old.size self.old.me self.old.server (Own Timeout) ≡ None) }
-        ensures kept { OnOk result (KeepsAhead self.old self.new) }
+            refusal M.spec self.old.size self.old.me self.old.server (Own Timeout) ≡ None) }
+        ensures kept { OnOk result (KeepsProjected self.old self.new) }
         ensures stopped { IfErr result (λ cause.
-            EndsRefused M.meaning self.old (Own Timeout) cause self.new outbox.old outbox.new) }
-        ensures unhidden { IfErr result (λ cause. HidesNothing M.meaning self.old.size self.old.me
+            EndsRefused M.spec self.old (Own Timeout) cause self.new outbox.old outbox.new) }
+        ensures unhidden { IfErr result (λ cause. HidesNothing M.spec self.old.size self.old.me
             self.old.server (Own Timeout) cause) }
     {
         if self.is_leader() {
@@ -270,7 +275,7 @@ impl<M: Machine> Raft<M> {
         if self.log.last().get() + 1 >= Index::LIMIT {
             return Err(Refusal::Exhausted);
         }
-        self.stand(outbox)?;
+        self.start_election(outbox)?;
         Ok(())
     }
 }

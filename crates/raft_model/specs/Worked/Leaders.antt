@@ -1,7 +1,7 @@
 -- A leader and its followers: replies, the commit index, proposals.
 use Rattle.std.specs.Prelude.{◌≡◌, true, false, Some, None, Ok, Err, [], ◌∷◌}
 use Rattle.rows.specs.declared.refusal.Refusal.TheVariants as refusals
-use Rattle.machine_model.specs.Tally.{tally_meaning}
+use Rattle.machine_model.specs.Tally.{tally_spec}
 use Rattle.machine_model.specs.declared.tally.TallyCommand.{TallyCommand}
 use Rattle.machine_model.specs.declared.tally.TallyCommand.TheVariants.{Add}
 use Rattle.raft_model.specs.Messages.{Append, AppendReply, Install}
@@ -23,7 +23,7 @@ leader = record {
 
 -- Beat: to server 1 an empty Append, to server 2, which lacks what the snapshot covers, an Install.
 abbrev pub LeaderBeats : Type 0
-LeaderBeats = step tally_meaning 3 0 leader Beat ≡ Ok (record {
+LeaderBeats = step tally_spec 3 0 leader Beat ≡ Ok (record {
   server = leader;
   sent = message 0 1 2 (Append 2 1 1 []) ∷ message 0 2 2 (Install (adds 1 7 ∷ [])) ∷ [];
 })
@@ -55,19 +55,19 @@ NextStaysPastMatch = after_inputs 3 0 leader (Arrives (message 1 0 2 (AppendRepl
 
 -- A proposal is admitted against the whole log, committed or not.
 abbrev pub WholeLog : Type 0
-WholeLog = step tally_meaning 3 0 (after_inputs 3 0 leader (Propose (Add 985) ∷ [])) (Propose (Add 1)) ≡ Err refusals.OutOfRange
+WholeLog = step tally_spec 3 0 (after_inputs 3 0 leader (Propose (Add 985) ∷ [])) (Propose (Add 1)) ≡ Err refusals.OutOfRange
 
 -- A follower refuses proposals, and names the leader that it knows.
 abbrev pub NotLeader : Type 0
-NotLeader = step tally_meaning 3 0 (record leader { mode = Follower; known = Some 2 }) (Propose (Add 1)) ≡ Err (refusals.NotLeader (Some 2))
+NotLeader = step tally_spec 3 0 (record leader { mode = Follower; known = Some 2 }) (Propose (Add 1)) ≡ Err (refusals.NotLeader (Some 2))
 
 -- A server that is down refuses all but Restart.
 abbrev pub IsDown : Type 0
-IsDown = step tally_meaning 3 0 (record leader { mode = Down }) Timeout ≡ Err refusals.Down
+IsDown = step tally_spec 3 0 (record leader { mode = Down }) Timeout ≡ Err refusals.Down
 
 -- One that is up refuses Restart.
 abbrev pub IsUp : Type 0
-IsUp = step tally_meaning 3 0 leader Restart ≡ Err refusals.OutOfRange
+IsUp = step tally_spec 3 0 leader Restart ≡ Err refusals.OutOfRange
 
 -- After a restart a server begins from what its snapshot covers.
 abbrev pub RestartsFromSnapshot : Type 0

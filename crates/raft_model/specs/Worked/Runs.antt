@@ -1,6 +1,6 @@
 -- Runs: several servers, one event after the other.
 use Rattle.std.specs.Prelude.{◌≡◌, ℕ, true, false, Some, None, Ok, List, [], ◌∷◌, ◌++◌, map, replicate, take}
-use Rattle.machine_model.specs.Tally.{tally_meaning}
+use Rattle.machine_model.specs.Tally.{tally_spec}
 use Rattle.machine_model.specs.declared.entry.Entry.{Entry}
 use Rattle.machine_model.specs.declared.tally.TallyCommand.{TallyCommand}
 use Rattle.machine_model.specs.declared.tally.TallyCommand.TheVariants.{Add}
@@ -75,7 +75,7 @@ RefusalOften = (after_inputs 3 0 long_leader (replicate 34 refusal)).mode ≡ Le
 -- The Append from there reaches 32 entries, all of which agree: commit rises to 32 and not to the
 -- leader's 34, since entry 34 differs.
 abbrev pub CommitWithinAppend : Type 0
-CommitWithinAppend = step tally_meaning 3 2 (follower 3 (shared ++ adds 2 6 ∷ [])) (Arrives (message 0 2 3 (Append 0 0 34 (take 32 shared)))) ≡ Ok (record {
+CommitWithinAppend = step tally_spec 3 2 (follower 3 (shared ++ adds 2 6 ∷ [])) (Arrives (message 0 2 3 (Append 0 0 34 (take 32 shared)))) ≡ Ok (record {
   server = record { term = 3; vote = None; log = shared ++ adds 2 6 ∷ []; covered = 0; commit = 32; known = Some 0; mode = Follower };
   sent = message 2 0 3 (AppendReply 3 true 32) ∷ [];
 })

@@ -2,7 +2,7 @@
 -- refuses.
 use Rattle.std.specs.Prelude.{◌≡◌, true, false, Some, None, Ok, Err, [], ◌∷◌, take}
 use Rattle.rows.specs.declared.refusal.Refusal.TheVariants as refusals
-use Rattle.machine_model.specs.Tally.{tally_meaning}
+use Rattle.machine_model.specs.Tally.{tally_spec}
 use Rattle.machine_model.specs.declared.tally.TallyCommand.{TallyCommand}
 use Rattle.machine_model.specs.declared.tally.TallyCommand.TheVariants.{Add}
 use Rattle.raft_model.specs.Messages.{VoteRequest, VoteReply, Append, AppendReply, Install, InstallReply}
@@ -20,21 +20,21 @@ voted = record (follower 1 []) { vote = Some 0; known = Some 0 }
 
 -- In a greater term its vote is free again, and it knows no leader.
 abbrev pub FreeInNextTerm : Type 0
-FreeInNextTerm = step tally_meaning 3 1 voted (Arrives (message 2 1 2 (VoteRequest 0 0))) ≡ Ok (record {
+FreeInNextTerm = step tally_spec 3 1 voted (Arrives (message 2 1 2 (VoteRequest 0 0))) ≡ Ok (record {
   server = record (follower 2 []) { vote = Some 2 };
   sent = message 1 2 2 (VoteReply 2 true) ∷ [];
 })
 
 -- The one that has its vote is answered once more.
 abbrev pub GrantsAgain : Type 0
-GrantsAgain = step tally_meaning 3 1 voted (Arrives (message 0 1 1 (VoteRequest 0 0))) ≡ Ok (record {
+GrantsAgain = step tally_spec 3 1 voted (Arrives (message 0 1 1 (VoteRequest 0 0))) ≡ Ok (record {
   server = voted;
   sent = message 1 0 1 (VoteReply 1 true) ∷ [];
 })
 
 -- One that asks in a lower term is denied, in that term.
 abbrev pub OlderTermDenied : Type 0
-OlderTermDenied = step tally_meaning 3 1 (follower 2 []) (Arrives (message 2 1 1 (VoteRequest 0 0))) ≡ Ok (record {
+OlderTermDenied = step tally_spec 3 1 (follower 2 []) (Arrives (message 2 1 1 (VoteRequest 0 0))) ≡ Ok (record {
   server = follower 2 [];
   sent = message 1 2 2 (VoteReply 1 false) ∷ [];
 })
@@ -68,28 +68,28 @@ both_committed = record (follower 2 (adds 1 7 ∷ adds 1 8 ∷ [])) { commit = 2
 
 -- It never falls.
 abbrev pub CommitNeverFalls : Type 0
-CommitNeverFalls = step tally_meaning 3 2 both_committed (Arrives (message 0 2 2 (Append 2 1 1 []))) ≡ Ok (record {
+CommitNeverFalls = step tally_spec 3 2 both_committed (Arrives (message 0 2 2 (Append 2 1 1 []))) ≡ Ok (record {
   server = both_committed;
   sent = message 2 0 2 (AppendReply 2 true 2) ∷ [];
 })
 
 -- What stands at or below it counts as held with the right term.
 abbrev pub CommittedIsHeld : Type 0
-CommittedIsHeld = step tally_meaning 3 2 both_committed (Arrives (message 0 2 2 (Append 1 2 0 []))) ≡ Ok (record {
+CommittedIsHeld = step tally_spec 3 2 both_committed (Arrives (message 0 2 2 (Append 1 2 0 []))) ≡ Ok (record {
   server = both_committed;
   sent = message 2 0 2 (AppendReply 2 true 1) ∷ [];
 })
 
 -- An Install at or below it takes nothing over, and is answered.
 abbrev pub InstalledBefore : Type 0
-InstalledBefore = step tally_meaning 3 2 both_committed (Arrives (message 0 2 2 (Install (adds 1 7 ∷ [])))) ≡ Ok (record {
+InstalledBefore = step tally_spec 3 2 both_committed (Arrives (message 0 2 2 (Install (adds 1 7 ∷ [])))) ≡ Ok (record {
   server = both_committed;
   sent = message 2 0 2 (InstallReply 2 1) ∷ [];
 })
 
 -- One of a lower term is refused with 0.
 abbrev pub OlderInstall : Type 0
-OlderInstall = step tally_meaning 3 2 both_committed (Arrives (message 0 2 1 (Install (adds 1 7 ∷ adds 1 8 ∷ adds 1 9 ∷ [])))) ≡ Ok (record {
+OlderInstall = step tally_spec 3 2 both_committed (Arrives (message 0 2 1 (Install (adds 1 7 ∷ adds 1 8 ∷ adds 1 9 ∷ [])))) ≡ Ok (record {
   server = both_committed;
   sent = message 2 0 2 (InstallReply 1 0) ∷ [];
 })
@@ -110,18 +110,18 @@ LateAnswers = after_inputs 3 0 leader (Arrives (message 1 0 2 (AppendReply 1 fal
 
 -- A message from outside the group is none of its own.
 abbrev pub OutsideTheGroup : Type 0
-OutsideTheGroup = step tally_meaning 3 0 leader (Arrives (message 3 0 2 (AppendReply 2 true 2))) ≡ Err refusals.OutOfRange
+OutsideTheGroup = step tally_spec 3 0 leader (Arrives (message 3 0 2 (AppendReply 2 true 2))) ≡ Err refusals.OutOfRange
 
 -- At most 32 entries go at once.
 abbrev pub ThirtyTwoAtOnce : Type 0
-ThirtyTwoAtOnce = step tally_meaning 3 0 (record long_leader { mode = Leader (35 ∷ 35 ∷ 1 ∷ []) (0 ∷ 34 ∷ 0 ∷ []) }) Beat ≡ Ok (record {
+ThirtyTwoAtOnce = step tally_spec 3 0 (record long_leader { mode = Leader (35 ∷ 35 ∷ 1 ∷ []) (0 ∷ 34 ∷ 0 ∷ []) }) Beat ≡ Ok (record {
   server = record long_leader { mode = Leader (35 ∷ 35 ∷ 1 ∷ []) (0 ∷ 34 ∷ 0 ∷ []) };
   sent = message 0 1 3 (Append 34 3 34 []) ∷ message 0 2 3 (Append 0 0 34 (take 32 shared)) ∷ [];
 })
 
 -- A follower sends nothing at a beat.
 abbrev pub FollowerIsSilent : Type 0
-FollowerIsSilent = step tally_meaning 3 1 voted Beat ≡ Ok (silent voted)
+FollowerIsSilent = step tally_spec 3 1 voted Beat ≡ Ok (silent voted)
 
 -- ---- snapshots and crashes
 
@@ -138,16 +138,16 @@ abbrev pub down : Raft TallyCommand
 down = record (follower 1 []) { mode = Down }
 
 abbrev pub DownTakesNothing : Type 0
-DownTakesNothing = step tally_meaning 3 1 down (Arrives (message 0 1 2 (VoteRequest 0 0))) ≡ Err refusals.Down
+DownTakesNothing = step tally_spec 3 1 down (Arrives (message 0 1 2 (VoteRequest 0 0))) ≡ Err refusals.Down
 
 abbrev pub DownBeatsNot : Type 0
-DownBeatsNot = step tally_meaning 3 1 down Beat ≡ Err refusals.Down
+DownBeatsNot = step tally_spec 3 1 down Beat ≡ Err refusals.Down
 
 abbrev pub DownTakesNoProposal : Type 0
-DownTakesNoProposal = step tally_meaning 3 1 down (Propose (Add 1)) ≡ Err refusals.Down
+DownTakesNoProposal = step tally_spec 3 1 down (Propose (Add 1)) ≡ Err refusals.Down
 
 abbrev pub DownCompactsNothing : Type 0
-DownCompactsNothing = step tally_meaning 3 1 down Compact ≡ Err refusals.Down
+DownCompactsNothing = step tally_spec 3 1 down Compact ≡ Err refusals.Down
 
 abbrev pub DownCrashesNot : Type 0
-DownCrashesNot = step tally_meaning 3 1 down Crash ≡ Err refusals.Down
+DownCrashesNot = step tally_spec 3 1 down Crash ≡ Err refusals.Down

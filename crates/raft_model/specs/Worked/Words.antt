@@ -1,7 +1,7 @@
 -- Words of the worked steps.
 use Rattle.std.specs.Prelude.{ℕ, None, Result, Ok, Err, List, [], ◌∷◌}
 use Rattle.rows.specs.declared.refusal.Refusal.{Refusal}
-use Rattle.machine_model.specs.Tally.{tally_meaning}
+use Rattle.machine_model.specs.Tally.{tally_spec}
 use Rattle.machine_model.specs.declared.entry.Entry.{Entry}
 use Rattle.machine_model.specs.declared.tally.TallyCommand.{TallyCommand}
 use Rattle.machine_model.specs.declared.tally.TallyCommand.TheVariants.{Noop, Add}
@@ -34,7 +34,7 @@ or_stays s (Err refusal) = s
 -- server `me` of n after the inputs, one after the other
 abbrev pub after_inputs : ℕ → ℕ → Raft TallyCommand → List (Input TallyCommand) → Raft TallyCommand
 after_inputs n me s [] = s
-after_inputs n me s (input ∷ inputs) = after_inputs n me (or_stays s (step tally_meaning n me s input)) inputs
+after_inputs n me s (input ∷ inputs) = after_inputs n me (or_stays s (step tally_spec n me s input)) inputs
 
 -- the next world, or the same one where the event is refused
 abbrev pub or_same : World TallyCommand → Result (World TallyCommand) Refusal → World TallyCommand
@@ -44,4 +44,4 @@ or_same w (Err refusal) = w
 -- the world after the events, one after the other, those that are refused left out
 abbrev pub after_events : World TallyCommand → List (Event TallyCommand) → World TallyCommand
 after_events w [] = w
-after_events w (event ∷ events) = after_events (or_same w (happens tally_meaning w event)) events
+after_events w (event ∷ events) = after_events (or_same w (happens tally_spec w event)) events

@@ -40,10 +40,10 @@ module _ {C : Type 0} where
   -- the first k of X are those of a ledger, below an index that was chosen in a term up to v
   pub record FixedBy (n : ℕ) (G : History C) (v k : ℕ) (X : List (Entry C)) : Type 0 where
     pub term : ℕ
-    pub place : ℕ
+    pub index : ℕ
     pub early : term ≤ v
-    pub reach : k ≤ place
-    pub chosen : Chosen n G term place
+    pub reach : k ≤ index
+    pub chosen : Chosen n G term index
     pub agree : Agree k X (G.ledger term)
 
   -- the first k of X are committed by a term up to v

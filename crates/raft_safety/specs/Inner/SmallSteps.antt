@@ -1,12 +1,12 @@
 -- Each event is a few small steps of one server in a row. What a run keeps is proved for each of
 -- these.
 use Rattle.std.specs.Prelude.{◌≡◌, ℕ, ◌+◌, ◌<◌, Bool, true, false, Some, None, List, [], ◌∷◌, length, slice_get, slice_set}
-use Rattle.machine_model.specs.Meaning.{Meaning, IsCommandOf}
+use Rattle.machine_model.specs.MachineSpec.{MachineSpec, IsCommandOf}
 use Rattle.machine_model.specs.declared.entry.Entry.{Entry}
 use Rattle.raft_model.specs.Logs.{MAX}
 use Rattle.raft_model.specs.Quorums.{is_quorum, marked}
 use Rattle.raft_model.specs.Messages.{Message, Body, VoteRequest, VoteReply, Append, AppendReply, Install, InstallReply, to_others}
-use Rattle.raft_model.specs.Rafts.{Raft, Mode, Down, Follower, Candidate, Leader, is_up, is_leader, stood, vote_request_to, is_free_for, is_up_to_date, won, following, is_held, appended, installed, match_raised, backed_off, is_chosen, greatest, beat_message, compacted, extended}
+use Rattle.raft_model.specs.Rafts.{Raft, Mode, Down, Follower, Candidate, Leader, is_up, is_leader, election_started, vote_request_to, is_free_for, is_up_to_date, won, following, is_held, appended, installed, match_raised, backed_off, is_chosen, greatest, beat_message, compacted, extended}
 use Rattle.raft_model.specs.Steps.{admission_refusal}
 
 -- replies that refuse: they promise nothing
@@ -25,10 +25,10 @@ abbrev pub IsAck : {C : Type 0} → Body C → ℕ → ℕ → Type 0
 IsAck (VoteRequest index term) asked at = ⊥
 IsAck (VoteReply answered granted) asked at = ⊥
 IsAck (Append prev prev_term commit entries) asked at = ⊥
-IsAck (AppendReply answered true place) asked at = (answered ≡ asked) × (place ≡ at)
-IsAck (AppendReply answered false place) asked at = ⊥
+IsAck (AppendReply answered true index) asked at = (answered ≡ asked) × (index ≡ at)
+IsAck (AppendReply answered false index) asked at = ⊥
 IsAck (Install covered) asked at = ⊥
-IsAck (InstallReply answered place) asked at = (answered ≡ asked) × (place ≡ at)
+IsAck (InstallReply answered index) asked at = (answered ≡ asked) × (index ≡ at)
 
 -- modes in which nothing volatile is known
 abbrev pub KnowsNothing : Mode → Type 0
@@ -45,13 +45,13 @@ LedBefore s r = is_leader r.mode ≡ true → (is_leader s.mode ≡ true) × (r.
 abbrev pub WasSent : {C : Type 0} → List (Message C) → Message C → Type 0
 WasSent sent message = (k : ℕ) × (slice_get sent k ≡ Some message)
 
-module _ {S C : Type 0} (m : Meaning S C) (n i : ℕ) (sent : List (Message C)) where
+module _ {S C : Type 0} (m : MachineSpec S C) (n i : ℕ) (sent : List (Message C)) where
   -- server i goes from s to t, and says `out`
   pub data Small (s t : Raft C) (out : List (Message C)) : Type 0 where
     -- a message of a greater term
     raises : (message : Message C) → WasSent sent message → s.term < message.term → t ≡ record s { term = message.term; vote = None; known = None; mode = Follower } → out ≡ [] → Small s t out
     -- a timeout
-    stands : s.term < MAX → length s.log < MAX → t ≡ stood n i s → out ≡ to_others i (vote_request_to i (stood n i s)) n → Small s t out
+    stands : s.term < MAX → length s.log < MAX → t ≡ election_started n i s → out ≡ to_others i (vote_request_to i (election_started n i s)) n → Small s t out
     -- a vote that is free, for a candidate that is up to date
     grants_vote : (from index its_last : ℕ) → WasSent sent (record { from = from; to = i; term = s.term; body = VoteRequest index its_last }) →
         is_free_for s.vote from ≡ true → is_up_to_date s.log index its_last ≡ true → t ≡ record s { vote = Some from } →

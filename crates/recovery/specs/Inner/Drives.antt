@@ -1,15 +1,15 @@
 -- Values with runs, whose part of the log is driven: servers of the log, or a whole group.
 use Rattle.std.specs.Prelude.{◌≡◌, ℕ, ◌+◌, ◌<◌, ◌⊎◌, Some, None, List, [], ◌∷◌, ◌++◌, Ok, length, slice_get}
-use Rattle.machine_model.specs.Meaning.{Meaning}
+use Rattle.machine_model.specs.MachineSpec.{MachineSpec}
 use Rattle.raft_model.specs.Rafts.{Raft}
 use Rattle.raft_core.specs.RaftView.{RaftView}
-use Rattle.raft_core.specs.Steps.{Represents}
+use Rattle.raft_core.specs.Steps.{Refines}
 use Rattle.raft_model.specs.Worlds.{World, Event, Deliver, TimesOut, Beats, Run, happens}
 use Rattle.recovery.specs.declared.calm_event.CalmEvent.{CalmEvent}
 use Rattle.recovery.specs.declared.calm_event.CalmEvent.TheVariants as calms
 use Rattle.recovery.specs.declared.unsettled.Unsettled.{Unsettled}
 use Rattle.recovery.specs.declared.unsettled.Unsettled.TheVariants.{NoQuorum, Exhausted, NoMemory, Crashed}
-use Rattle.recovery.specs.Inner.Spreads.{Came, CanTake}
+use Rattle.recovery.specs.Inner.Spreads.{Came, CanHappen}
 
 -- What such values V are: the moments of their runs, and the events in their traces.
 pub record Drive (V S C : Type 0) : Type 1 where
@@ -49,9 +49,9 @@ module _ {V S C : Type 0} (d : Drive V S C) where
   EverAt view place P = EverOf view (λ w. (p : ℕ) → d.At w place p → P p (d.log w))
 
   -- server k is there, and this value represents it
-  abbrev pub StandsThere : Meaning S C → ℕ → RaftView S C → V → Type 0
+  abbrev pub StandsThere : MachineSpec S C → ℕ → RaftView S C → V → Type 0
   StandsThere m k h view =
-      Ever view (λ w. (s : Raft C) × (slice_get w.servers k ≡ Some s) × Represents m h s)
+      Ever view (λ w. (s : Raft C) × (slice_get w.servers k ≡ Some s) × Refines m h s)
 
   -- the group has no such server
   abbrev pub NoneThere : ℕ → V → Type 0
@@ -123,8 +123,8 @@ module _ {V S C : Type 0} (d : Drive V S C) where
   IsOfLog w (calms.Deliver place) f = (p : ℕ) × d.At w place p × (f ≡ Deliver p)
 
   -- it can happen, and this server takes it
-  abbrev pub CanGo : Meaning S C → CalmEvent → ℕ → d.Moment → Type 0
-  CanGo m event who w = (f : Event C) × IsOfLog w event f × CanTake m f who (d.log w)
+  abbrev pub CanGo : MachineSpec S C → CalmEvent → ℕ → d.Moment → Type 0
+  CanGo m event who w = (f : Event C) × IsOfLog w event f × CanHappen m f who (d.log w)
 
   -- it happened
   abbrev pub HasGone : CalmEvent → List d.Own → d.Moment → d.Moment → Type 0
@@ -167,15 +167,15 @@ module _ {V S C : Type 0} (d : Drive V S C) where
   SwapStops place old new why = Halts (IsWithin place) old new why
 
   -- it came so far by timeouts and beats of server i, and deliveries
-  abbrev pub CameBy : Meaning S C → ℕ → List d.Own → d.Moment → d.Moment → Type 0
+  abbrev pub CameBy : MachineSpec S C → ℕ → List d.Own → d.Moment → d.Moment → Type 0
   CameBy m i taken w v = Drove taken w v (λ es x y. Came m i es x y)
 
   -- memory was wanting on the way
-  abbrev pub Stops : Meaning S C → ℕ → V → V → Unsettled → Type 0
+  abbrev pub Stops : MachineSpec S C → ℕ → V → V → Unsettled → Type 0
   Stops m i old new why = Halts (CameBy m i) old new why
 
 -- What holds of all such values.
-pub record LawfulDrive {V S C : Type 0} (m : Meaning S C) (d : Drive V S C) : Type 0 where
+pub record LawfulDrive {V S C : Type 0} (m : MachineSpec S C) (d : Drive V S C) : Type 0 where
   -- a value has one run, which is one of the log
   pub one : (view : V) (past past2 : List d.Moment) (w w2 : d.Moment) →
       d.Runs view past w → d.Runs view past2 w2 → w ≡ w2

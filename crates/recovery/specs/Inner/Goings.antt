@@ -1,6 +1,6 @@
 -- What is read off a value's log, and what becomes of the whole.
 use Rattle.std.specs.Prelude.{◌≡◌, ℕ, ◌+◌, ◌⊎◌, ◌<◌, ◌≤◌, Bool, true, false, ◌||◌, ◌&&◌, ◌==◌, nat_lt, if◌then◌else◌, Option, Some, None, List, length, slice_get}
-use Rattle.machine_model.specs.Meaning.{Meaning}
+use Rattle.machine_model.specs.MachineSpec.{MachineSpec}
 use Rattle.machine_model.specs.declared.entry.Entry.{Entry}
 use Rattle.raft_model.specs.Logs.{MAX, last_term}
 use Rattle.raft_model.specs.Messages.{Message}
@@ -29,7 +29,7 @@ module _ {V S C : Type 0} (d : Drive V S C) where
   abbrev pub RoomLacks : V → Type 0
   RoomLacks view = Ever d view (λ w. HasRoom (d.size view) (is_up_in w) w → ⊥)
 
-  module _ (m : Meaning S C) where
+  module _ (m : MachineSpec S C) where
     -- the value is settled by server `who`
     pub record DriveSettled (old new : V) (who : ℕ) : Type 0 where
       pub quorum : QuorumIsUp old

@@ -1,20 +1,20 @@
 -- The two kinds of what is driven: servers of the log alone, and a whole group.
 use Rattle.std.specs.Prelude.{◌≡◌, ℕ, ◌+◌, ◌^◌, ◌<◌, Some, Ok, List, ◌++◌, length, map, take, slice_get}
 use Rattle.rows.specs.declared.command.Command.{Command}
-use Rattle.machine_model.specs.Meaning.{Meaning}
+use Rattle.machine_model.specs.MachineSpec.{MachineSpec}
 use Rattle.raft_model.specs.Messages.{Message}
 use Rattle.raft_model.specs.Rafts.{Raft}
 use Rattle.raft_model.specs.Worlds as raft_worlds
-use Rattle.cluster_model.specs.Words.{State}
-use Rattle.cluster_model.specs.ClusterMachine.{cluster_meaning}
+use Rattle.fsm_model.specs.Words.{State}
+use Rattle.fsm_model.specs.ClusterMachine.{cluster_spec}
 use Rattle.group_model.specs.Inputs as inputs
 use Rattle.group_model.specs.Messages.{OfLog}
 use Rattle.group_model.specs.Worlds.{World, Event, Deliver, AtServer, IsEvent, happens, crash_of, raft_of, raft_messages}
 use Rattle.group_safety.specs.Limits.{NodesFit}
 use Rattle.world.specs.WorldView.{WorldView, RunsTo}
-use Rattle.world.specs.Steps.{MayWantFor}
+use Rattle.world.specs.Steps.{OutOfMemoryMayEndFor}
 use Rattle.world.specs.GroupView.{GroupView, GroupRunsTo, nodes_of}
-use Rattle.world.specs.GroupSteps.{MayWantAt}
+use Rattle.world.specs.GroupSteps.{OutOfMemoryMayEndAt}
 use Rattle.recovery.specs.declared.calm_event.CalmEvent.{CalmEvent}
 use Rattle.recovery.specs.declared.calm_event.CalmEvent.TheVariants as calms
 use Rattle.recovery.specs.Inner.Drives.{Drive}
@@ -33,13 +33,13 @@ log_event_of (calms.Deliver place) = raft_worlds.Deliver place
 log_event_of (calms.Timeout i) = raft_worlds.TimesOut i
 log_event_of (calms.Beat i) = raft_worlds.Beats i
 
-module _ {S C : Type 0} (m : Meaning S C) where
+module _ {S C : Type 0} (m : MachineSpec S C) where
   -- in place of an event for which it may have wanted memory, its server crashed
   pub record LogFalls (w : raft_worlds.World C) (who : ℕ) (own : raft_worlds.Event C)
       (v : raft_worlds.World C) : Type 0 where
     pub event : raft_worlds.Event C
     pub actor : raft_worlds.acting_server m w event ≡ Some who
-    pub lacking : (s : Raft C) → slice_get w.servers who ≡ Some s → MayWantFor w event s
+    pub lacking : (s : Raft C) → slice_get w.servers who ≡ Some s → OutOfMemoryMayEndFor w event s
     pub crash : raft_worlds.happens m w (raft_worlds.Crashes who) ≡ Ok v
     pub own_is : own ≡ raft_worlds.Crashes who
 
@@ -99,7 +99,7 @@ pub record GroupStep (w : World) (own : Event) (e : raft_worlds.Event Command) (
   pub is : IsLogEvent w own e
   pub fits : IsEvent w own
   pub happens : happens w own ≡ Ok v
-  pub log : raft_worlds.happens cluster_meaning (raft_of w) e ≡ Ok (raft_of v)
+  pub log : raft_worlds.happens cluster_spec (raft_of w) e ≡ Ok (raft_of v)
   pub messages : List (Message Command)
   pub sent : v.sent ≡ w.sent ++ map OfLog messages
 
@@ -107,7 +107,7 @@ pub record GroupStep (w : World) (own : Event) (e : raft_worlds.Event Command) (
 pub record GroupFalls (w : World) (who : ℕ) (own : Event) (v : World) : Type 0 where
   pub event : Event
   pub actor : crash_of w event ≡ Some (AtServer who inputs.Crash)
-  pub lacking : MayWantAt w event
+  pub lacking : OutOfMemoryMayEndAt w event
   pub crash : happens w (AtServer who inputs.Crash) ≡ Ok v
   pub own_is : own ≡ AtServer who inputs.Crash
 

@@ -1,6 +1,6 @@
 -- A round: one server stands or beats, and each other that is up gets what it sent and answers.
 use Rattle.std.specs.Prelude.{◌≡◌, ◌≢◌, ℕ, suc, ◌+◌, ◌-◌, ◌*◌, ◌<◌, ◌≤◌, ◌⊎◌, Bool, true, false, Some, Ok, List, [], ◌∷◌, ◌++◌, length, nat_lt, if◌then◌else◌, slice_get}
-use Rattle.machine_model.specs.Meaning.{Meaning}
+use Rattle.machine_model.specs.MachineSpec.{MachineSpec}
 use Rattle.machine_model.specs.declared.entry.Entry.{Entry}
 use Rattle.raft_model.specs.Logs.{MAX}
 use Rattle.raft_model.specs.Messages.{Message}
@@ -26,7 +26,7 @@ Once {C} s t = ((t.log ≡ s.log) × (is_leader t.mode ≡ is_leader s.mode))
 abbrev pub OnceIn : {C : Type 0} → ℕ → World C → World C → Type 0
 OnceIn {C} i x y = (s t : Raft C) → slice_get x.servers i ≡ Some s → slice_get y.servers i ≡ Some t → Once s t
 
-module _ {S C : Type 0} (m : Meaning S C) (Q : ℕ → Bool) (i since : ℕ) where
+module _ {S C : Type 0} (m : MachineSpec S C) (Q : ℕ → Bool) (i since : ℕ) where
   -- in between the message at this place is delivered, and so is its answer
   pub record Swapped (place : ℕ) (y x : World C) : Type 0 where
     pub at_request : World C
@@ -66,7 +66,7 @@ pub record Ready {C : Type 0} (n i : ℕ) (w : World C) : Type 0 where
 
 -- From one world to another server i led its term at each moment, each other that is up was asked
 -- and has answered, and has kept since what it had applied then.
-pub record Rounded {S C : Type 0} (m : Meaning S C) (n i T : ℕ) (w v : World C) : Type 0 where
+pub record Rounded {S C : Type 0} (m : MachineSpec S C) (n i T : ℕ) (w v : World C) : Type 0 where
   pub peace : Peace m i T w v
   pub each : (k : ℕ) → k < n → is_up_in w k ≡ true → k ≢ i → Answered m i T k w v
   pub kept : (k : ℕ) (less : k < n) (up : is_up_in w k ≡ true) (other : k ≢ i) (s t : Raft C) →
@@ -75,7 +75,7 @@ pub record Rounded {S C : Type 0} (m : Meaning S C) (n i T : ℕ) (w v : World C
 
 -- A round of server i, from one world to another: it leads then, and may go on; and if it led
 -- before, it led on.
-pub record Spread {S C : Type 0} (m : Meaning S C) (n i : ℕ) (w v : World C) : Type 0 where
+pub record Spread {S C : Type 0} (m : MachineSpec S C) (n i : ℕ) (w v : World C) : Type 0 where
   pub up : SameUp w v
   pub ready : Ready n i v
   pub once : OnceIn i w v
@@ -89,7 +89,7 @@ AllApplied {C} i w = (me : Raft C) → slice_get w.servers i ≡ Some me →
     (j : ℕ) (s : Raft C) → slice_get w.servers j ≡ Some s → is_up s.mode ≡ true → length me.log ≤ s.commit
 
 -- Server i led from one world to another, for so many rounds.
-pub record Rounding {S C : Type 0} (m : Meaning S C) (n i : ℕ) (w : World C) (rounds : ℕ) (v : World C) : Type 0 where
+pub record Rounding {S C : Type 0} (m : MachineSpec S C) (n i : ℕ) (w : World C) (rounds : ℕ) (v : World C) : Type 0 where
   pub up : SameUp w v
   pub ready : Ready n i v
   pub once : OnceIn i w v
@@ -102,12 +102,12 @@ pub record Rounding {S C : Type 0} (m : Meaning S C) (n i : ℕ) (w : World C) (
 
 -- From one world to another by these events: so many timeouts and beats of server i, and deliveries
 -- of what was sent since.
-pub record Way {S C : Type 0} (m : Meaning S C) (i : ℕ) (w : World C) (taken : List (Event C)) (timeouts beats : ℕ) (v : World C) : Type 0 where
+pub record Way {S C : Type 0} (m : MachineSpec S C) (i : ℕ) (w : World C) (taken : List (Event C)) (timeouts beats : ℕ) (v : World C) : Type 0 where
   pub recovery : Recovery m i w timeouts beats v
   pub events : events_of m i w timeouts beats v recovery ≡ taken
 
 -- The message at this place can be delivered, and its answer to server i.
-pub record Swappable {S C : Type 0} (m : Meaning S C) (i place : ℕ) (x : World C) : Type 0 where
+pub record Swappable {S C : Type 0} (m : MachineSpec S C) (i place : ℕ) (x : World C) : Type 0 where
   pub first : World C
   pub second : World C
   pub delivered : happens m x (Deliver place) ≡ Ok first
@@ -117,11 +117,11 @@ pub record Swappable {S C : Type 0} (m : Meaning S C) (i place : ℕ) (x : World
   pub heard : happens m first (Deliver (length x.sent)) ≡ Ok second
 
 -- Server i beats, if it leads; else it stands.
-pub data Acted {S C : Type 0} (m : Meaning S C) (i : ℕ) (w : World C) : List (Event C) → ℕ → ℕ → World C → Type 0 where
+pub data HasBeatOrTimedOut {S C : Type 0} (m : MachineSpec S C) (i : ℕ) (w : World C) : List (Event C) → ℕ → ℕ → World C → Type 0 where
   it_beats : {y : World C} (s : Raft C) → slice_get w.servers i ≡ Some s → is_leader s.mode ≡ true →
-      happens m w (Beats i) ≡ Ok y → Acted m i w (Beats i ∷ []) 0 1 y
+      happens m w (Beats i) ≡ Ok y → HasBeatOrTimedOut m i w (Beats i ∷ []) 0 1 y
   it_stands : {y : World C} (s : Raft C) → slice_get w.servers i ≡ Some s → is_leader s.mode ≡ false →
-      happens m w (TimesOut i) ≡ Ok y → Acted m i w (TimesOut i ∷ []) 1 0 y
+      happens m w (TimesOut i) ≡ Ok y → HasBeatOrTimedOut m i w (TimesOut i ∷ []) 1 0 y
 
 -- Server i may be let stand: it is up with a quorum of the n servers, its log is no older than those
 -- of the others that are up, and these have room for two more terms and entries.
@@ -144,7 +144,7 @@ IsBehind {C} i k w = (s z : Raft C) → slice_get w.servers i ≡ Some s → sli
 
 -- From one world to another server i came to where it may go on, with the log that it had, by at
 -- most one timeout and one beat.
-pub record Risen {S C : Type 0} (m : Meaning S C) (n i : ℕ) (w : World C) (taken : List (Event C)) (v : World C) : Type 0 where
+pub record Risen {S C : Type 0} (m : MachineSpec S C) (n i : ℕ) (w : World C) (taken : List (Event C)) (v : World C) : Type 0 where
   pub up : SameUp w v
   pub ready : Ready n i v
   pub log : (s t : Raft C) → slice_get w.servers i ≡ Some s → slice_get v.servers i ≡ Some t → t.log ≡ s.log
@@ -159,50 +159,50 @@ abbrev pub seat : ℕ → ℕ → ℕ
 seat i k = if nat_lt i k then k - 1 else k
 
 -- it came so far by timeouts and beats of server i, and deliveries
-pub record Came {S C : Type 0} (m : Meaning S C) (i : ℕ) (taken : List (Event C)) (w v : World C) : Type 0 where
+pub record Came {S C : Type 0} (m : MachineSpec S C) (i : ℕ) (taken : List (Event C)) (w v : World C) : Type 0 where
   pub timeouts : ℕ
   pub beats : ℕ
   pub way : Way m i w taken timeouts beats v
 
 -- the event can happen, and this server takes it; it is no restart
-pub record CanTake {S C : Type 0} (m : Meaning S C) (e : Event C) (who : ℕ) (w : World C) : Type 0 where
+pub record CanHappen {S C : Type 0} (m : MachineSpec S C) (e : Event C) (who : ℕ) (w : World C) : Type 0 where
   pub next : World C
   pub happens : happens m w e ≡ Ok next
   pub actor : acting_server m w e ≡ Some who
   pub other : IsRestart m e → ⊥
 
 -- if the message at this place is for a server that is up, it can be delivered, and its answer
-pub record CanSwap {S C : Type 0} (m : Meaning S C) (i place : ℕ) (x : World C) : Type 0 where
+pub record CanSwap {S C : Type 0} (m : MachineSpec S C) (i place : ℕ) (x : World C) : Type 0 where
   pub message : Message C
   pub at : slice_get x.sent place ≡ Some message
   pub can : is_up_in x message.to ≡ true → Swappable m i place x
 
 -- it was not for one that is up, or it was delivered and its answer was
-pub data SwapDone {S C : Type 0} (m : Meaning S C) (place : ℕ) (x : World C) : List (Event C) → World C → Type 0 where
+pub data SwapDone {S C : Type 0} (m : MachineSpec S C) (place : ℕ) (x : World C) : List (Event C) → World C → Type 0 where
   not_up : (z : Message C) → slice_get x.sent place ≡ Some z → is_up_in x z.to ≡ false → SwapDone m place x [] x
   both : {v : World C} (first : World C) (z : Message C) → slice_get x.sent place ≡ Some z → is_up_in x z.to ≡ true →
       happens m x (Deliver place) ≡ Ok first → happens m first (Deliver (length x.sent)) ≡ Ok v →
       SwapDone m place x (Deliver place ∷ Deliver (length x.sent) ∷ []) v
 
 -- what server i may do by itself can happen
-pub record CanAct {S C : Type 0} (m : Meaning S C) (i : ℕ) (w : World C) : Type 0 where
+pub record CanBeatOrTimeOut {S C : Type 0} (m : MachineSpec S C) (i : ℕ) (w : World C) : Type 0 where
   pub server : Raft C
   pub here : slice_get w.servers i ≡ Some server
   pub beats : is_leader server.mode ≡ true → (y : World C) × (happens m w (Beats i) ≡ Ok y)
   pub stands : is_leader server.mode ≡ false → (y : World C) × (happens m w (TimesOut i) ≡ Ok y)
 
-pub record ActDone {S C : Type 0} (m : Meaning S C) (i : ℕ) (taken : List (Event C)) (w y : World C) : Type 0 where
+pub record ActDone {S C : Type 0} (m : MachineSpec S C) (i : ℕ) (taken : List (Event C)) (w y : World C) : Type 0 where
   pub timeouts : ℕ
   pub beats : ℕ
-  pub acted : Acted m i w taken timeouts beats y
+  pub acted : HasBeatOrTimedOut m i w taken timeouts beats y
 
 -- A round so far: the messages below this place were delivered, of those that were sent before `end`.
-pub record SpreadSoFar {S C : Type 0} (m : Meaning S C) (i place end : ℕ) (taken : List (Event C)) (w x : World C) : Type 0 where
+pub record SpreadSoFar {S C : Type 0} (m : MachineSpec S C) (i place end : ℕ) (taken : List (Event C)) (w x : World C) : Type 0 where
   pub opened : World C
   pub own : List (Event C)
   pub timeouts : ℕ
   pub beats : ℕ
-  pub acted : Acted m i w own timeouts beats opened
+  pub acted : HasBeatOrTimedOut m i w own timeouts beats opened
   pub ends : length opened.sent ≡ end
   pub going : Going m (is_up_in w) i (length w.sent) opened place x
   pub way : Way m i w taken timeouts beats x
@@ -213,7 +213,7 @@ RoundTakes {C} i w timeouts beats = (s : Raft C) → slice_get w.servers i ≡ S
     ((is_leader s.mode ≡ true) × (timeouts ≡ 0) × (beats ≡ 1)) ⊎ ((is_leader s.mode ≡ false) × (timeouts ≡ 1) × (beats ≡ 0))
 
 -- a round and its events
-pub record SpreadDone {S C : Type 0} (m : Meaning S C) (n i : ℕ) (taken : List (Event C)) (w v : World C) : Type 0 where
+pub record SpreadDone {S C : Type 0} (m : MachineSpec S C) (n i : ℕ) (taken : List (Event C)) (w v : World C) : Type 0 where
   pub spread : Spread m n i w v
   pub timeouts : ℕ
   pub beats : ℕ
@@ -221,7 +221,7 @@ pub record SpreadDone {S C : Type 0} (m : Meaning S C) (n i : ℕ) (taken : List
   pub kind : RoundTakes i w timeouts beats
 
 -- server i came to lead, by at most one timeout
-pub record LedDone {S C : Type 0} (m : Meaning S C) (n i : ℕ) (taken : List (Event C)) (w v : World C) : Type 0 where
+pub record LedDone {S C : Type 0} (m : MachineSpec S C) (n i : ℕ) (taken : List (Event C)) (w v : World C) : Type 0 where
   pub up : SameUp w v
   pub ready : Ready n i v
   pub once : OnceIn i w v
@@ -232,12 +232,12 @@ pub record LedDone {S C : Type 0} (m : Meaning S C) (n i : ℕ) (taken : List (E
   pub way : Way m i w taken timeouts 0 v
 
 -- so many rounds of a leader, with a beat each
-pub record ConfirmSoFar {S C : Type 0} (m : Meaning S C) (n i rounds : ℕ) (taken : List (Event C)) (w x : World C) : Type 0 where
+pub record ConfirmSoFar {S C : Type 0} (m : MachineSpec S C) (n i rounds : ℕ) (taken : List (Event C)) (w x : World C) : Type 0 where
   pub rounding : Rounding m n i w rounds x
   pub way : Way m i w taken 0 rounds x
 
 -- a leader has all applied that it has, by so many beats
-pub record AppliedDone {S C : Type 0} (m : Meaning S C) (i : ℕ) (taken : List (Event C)) (w v : World C) : Type 0 where
+pub record AppliedDone {S C : Type 0} (m : MachineSpec S C) (i : ℕ) (taken : List (Event C)) (w v : World C) : Type 0 where
   pub up : SameUp w v
   pub once : OnceIn i w v
   pub term : ℕ
@@ -254,7 +254,7 @@ pub record Leading {C : Type 0} (n i : ℕ) (w : World C) : Type 0 where
   pub leads : Leads w i term
 
 -- the message at this place is for server k, which is up; it can be delivered, and its answer
-pub record CanExchange {S C : Type 0} (m : Meaning S C) (i place k : ℕ) (x : World C) : Type 0 where
+pub record CanExchange {S C : Type 0} (m : MachineSpec S C) (i place k : ℕ) (x : World C) : Type 0 where
   pub message : Message C
   pub at : slice_get x.sent place ≡ Some message
   pub to : message.to ≡ k
@@ -262,7 +262,7 @@ pub record CanExchange {S C : Type 0} (m : Meaning S C) (i place k : ℕ) (x : W
   pub can : Swappable m i place x
 
 -- server i is behind server k, which is in the greatest term
-pub record CanHear {C : Type 0} (n i k : ℕ) (w : World C) : Type 0 where
+pub record CanObserveNewerTerm {C : Type 0} (n i k : ℕ) (w : World C) : Type 0 where
   pub chosen : Chosen n i w
   pub high : Highest n k w
   pub behind : IsBehind i k w

@@ -9,11 +9,11 @@ use Rattle.cells.specs.Groups.{AreOfGroup}
 use Rattle.cluster.specs.Closing.{ClosesTo}
 use Rattle.event_texts.specs.Transcripts.{IsTranscript}
 use Rattle.transcript.specs.Records.{record_of}
-use Rattle.ending.specs.Endings.{TellsEnding}
-use Rattle.scenario_file.specs.declared.scenario.Scenario.{Scenario}
-use Rattle.scenario_file.specs.Objects.{step_lines}
-use Rattle.playing.specs.Played.{Refused}
-use Rattle.file_runs.specs.Refusals.{TellsRefusals}
+use Rattle.sim_ending.specs.Endings.{TellsEnding}
+use Rattle.sim_scenario.specs.declared.scenario.Scenario.{Scenario}
+use Rattle.sim_scenario.specs.Objects.{step_lines}
+use Rattle.sim_play.specs.Played.{Refused}
+use Rattle.sim_files.specs.Refusals.{TellsRefusals}
 use Rattle.runner.specs.ThreadSteps.{LinesOnThreads}
 
 -- as many cells as a group of n servers and m clients has actors, which are these

@@ -5,22 +5,22 @@ use Rattle.std.specs.Str.{IsUtf8}
 use Rattle.clap.specs.Words.{IsAmong, Kinds, kind_of}
 use Rattle.rows.specs.declared.refusal.Refusal.{Refusal}
 use Rattle.rows.specs.declared.refusal.Refusal.TheVariants as refusals
-use Rattle.expansion.specs.Checked.{IsBadShortText}
-use Rattle.file_runs.specs.Faults.{MayStopPrinting}
-use Rattle.scenario_file.specs.declared.scenario.Settings.{Settings}
-use Rattle.expansion.specs.declared.short.ShortScenario.{ShortScenario}
-use Rattle.expansion.specs.Plains.{IsPlainOf, plain_form}
-use Rattle.expansion.specs.ShortSteps.{short_step}
-use Rattle.expansion.specs.Shorts.{IsShortText}
-use Rattle.expansion.specs.Stops.{CanBeExpanded}
-use Rattle.file_runs.specs.declared.fault.Fault.{Fault}
-use Rattle.file_runs.specs.declared.fault.Fault.TheVariants.{CommandLine, BadScenario, NoSuchEvent, Percentages, NoMemory, Output}
-use Rattle.picture.specs.declared.fault.DrawError.{DrawError}
-use Rattle.picture.specs.declared.fault.DrawError.TheVariants as drawings
-use Rattle.inspection.specs.declared.fault.InspectError.{InspectError}
-use Rattle.inspection.specs.declared.fault.InspectError.TheVariants as looks
-use Rattle.inspection.specs.declared.inspecting.Form.{Form}
-use Rattle.inspection.specs.declared.inspecting.Form.TheVariants as forms
+use Rattle.sim_expand.specs.Checked.{IsBadShortText}
+use Rattle.sim_files.specs.Faults.{MayStopPrinting}
+use Rattle.sim_scenario.specs.declared.scenario.Settings.{Settings}
+use Rattle.sim_expand.specs.declared.short.ShortScenario.{ShortScenario}
+use Rattle.sim_expand.specs.Plains.{IsPlainOf, plain_form}
+use Rattle.sim_expand.specs.ShortSteps.{short_step}
+use Rattle.sim_expand.specs.Shorts.{IsShortText}
+use Rattle.sim_expand.specs.Stops.{CanBeExpanded}
+use Rattle.sim_files.specs.declared.fault.Fault.{Fault}
+use Rattle.sim_files.specs.declared.fault.Fault.TheVariants.{CommandLine, BadScenario, NoSuchEvent, Percentages, NoMemory, Output}
+use Rattle.sim_draw.specs.declared.fault.DrawError.{DrawError}
+use Rattle.sim_draw.specs.declared.fault.DrawError.TheVariants as drawings
+use Rattle.sim_inspect.specs.declared.fault.InspectError.{InspectError}
+use Rattle.sim_inspect.specs.declared.fault.InspectError.TheVariants as looks
+use Rattle.sim_inspect.specs.declared.inspecting.Form.{Form}
+use Rattle.sim_inspect.specs.declared.inspecting.Form.TheVariants as forms
 use Rattle.runner.specs.Expansions.{TakesLines}
 
 -- a fault of the words is one of those found in them

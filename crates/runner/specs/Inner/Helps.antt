@@ -1,9 +1,9 @@
 -- What helps to mend a file that is at fault, as it is told at a terminal.
 use Rattle.std.specs.Prelude.{◌++◌, ◌∷◌, if◌then◌else◌, ℕ, Bool, true, false, List, [], codes}
 use Rattle.std.specs.Str.{bytes_eq}
-use Rattle.file_runs.specs.declared.fault.Fault.{Fault}
-use Rattle.file_runs.specs.declared.fault.Fault.TheVariants.{BadScenario, BadTranscript}
-use Rattle.file_runs.specs.Hints.{hint_text}
+use Rattle.sim_files.specs.declared.fault.Fault.{Fault}
+use Rattle.sim_files.specs.declared.fault.Fault.TheVariants.{BadScenario, BadTranscript}
+use Rattle.sim_files.specs.Hints.{hint_text}
 
 -- the word behind the program's name
 abbrev pub second_word : List (List ℕ) → List ℕ

@@ -2,12 +2,12 @@
 use Rattle.std.specs.Prelude.{◌++◌, ℕ, Bool, List, Option}
 use Rattle.std.specs.Io.KnownBytes.{Appends}
 use Rattle.std.specs.List.{flat_map}
-use Rattle.command_line.specs.declared.command.SweepWords.{SweepWords}
-use Rattle.scenario_file.specs.declared.scenario.Scenario.{Scenario}
-use Rattle.scenario_file.specs.declared.scenario.Settings.{Settings}
-use Rattle.sweep.specs.declared.row.Row.{Row}
-use Rattle.sweep.specs.Rows.{AreRows}
-use Rattle.sweep.specs.Tables.{csv_head, csv_line}
+use Rattle.sim_args.specs.declared.command.SweepWords.{SweepWords}
+use Rattle.sim_scenario.specs.declared.scenario.Scenario.{Scenario}
+use Rattle.sim_scenario.specs.declared.scenario.Settings.{Settings}
+use Rattle.sim_sweep.specs.declared.row.Row.{Row}
+use Rattle.sim_sweep.specs.Rows.{AreRows}
+use Rattle.sim_sweep.specs.Tables.{csv_head, csv_line}
 use Rattle.runner.specs.Told.{ShowsRows}
 
 -- there is a row for each of the keys, and the output grows by what is said of them

@@ -5,7 +5,7 @@ use Rattle.rows.specs.declared.job.Group.{Group}
 use Rattle.rows.specs.declared.allocation.AllocId.{AllocId}
 use Rattle.rows.specs.declared.allocation.Allocation.{Allocation}
 use Rattle.fsm_tables.specs.Claims.{is_live}
-use Rattle.cluster_model.specs.Words.{State, same_alloc, alloc_of}
+use Rattle.fsm_model.specs.Words.{State, same_alloc, alloc_of}
 use Rattle.group_model.specs.Scheduling.{PlanPart, MOST_CHANGES, claimed_by, is_of_name, names_of_groups}
 use Rattle.scheduler.specs.declared.growing.Growing.{Growing}
 use Rattle.scheduler.specs.Inner.Loads.{load_of}

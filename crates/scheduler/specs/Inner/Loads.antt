@@ -7,7 +7,7 @@ use Rattle.rows.specs.declared.allocation.Allocation.{Allocation}
 use Rattle.rows.specs.declared.command.AcceptedPlace.{AcceptedPlace}
 use Rattle.fsm_tables.specs.Claims.{Claim, used}
 use Rattle.rows.specs.Sizes.{plus, plus_within, less, fits}
-use Rattle.cluster_model.specs.Admission.{may_hold}
+use Rattle.fsm_model.specs.Admission.{may_hold}
 use Rattle.group_model.specs.Scheduling.{fullness}
 use Rattle.scheduler.specs.declared.load.Load.{Load}
 

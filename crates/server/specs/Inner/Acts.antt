@@ -10,7 +10,7 @@ use Rattle.rows.specs.declared.worker.ClientRequestKind.{ClientRequestKind}
 use Rattle.raft_model.specs.Rafts.{Raft, is_leader, crashed, extended}
 use Rattle.raft_model.specs.Steps as raft_steps
 use Rattle.raft_core.specs.Inner.Turns.{KeepsFront}
-use Rattle.cluster_model.specs.ClusterMachine.{cluster_meaning}
+use Rattle.fsm_model.specs.ClusterMachine.{cluster_spec}
 use Rattle.group_model.specs.Messages.{ClientRequest}
 use Rattle.group_model.specs.Desks.{Desk}
 use Rattle.group_model.specs.Inputs.{Input, TakeFrom, SubmitTo, FinishAt, NackAt, Act, AskPropose, rests, asks}
@@ -19,13 +19,13 @@ use Rattle.group_model.specs.WorkerRequests.{serves_request, hands_out}
 use Rattle.group_model.specs.ClientRequests.{serves_client, writes}
 use Rattle.group_model.specs.Servers.{Server, open_or, open_desk, at_desk, acts, done}
 use Rattle.server.specs.declared.server.Outbox.{Outbox}
-use Rattle.server.specs.ServerViews.{ServerView, IsServer, SameServer}
+use Rattle.server.specs.ServerViews.{ServerView, RefinesServer, SameServer}
 use Rattle.server.specs.Steps.{TakesTurn}
-use Rattle.server.specs.Refusals.{CanAppend, MayTakeMemory}
+use Rattle.server.specs.Refusals.{CanAppend, OutOfMemoryMayEnd}
 
 -- so of each server of the definitions that a value is
 abbrev pub EachServer : ServerView → (Server → Type 0) → Type 0
-EachServer view P = (s : Server) → IsServer view s → P s
+EachServer view P = (s : Server) → RefinesServer view s → P s
 
 -- it leads, and its desk is open
 pub record Serves (view : ServerView) : Type 0 where
@@ -73,7 +73,7 @@ asks_of to (Nack eval token) = NackAt to eval token
 
 -- Memory was wanting: what is stored is as it was, and nothing of what was sent before is lost.
 -- What the server does not store may be anything that its type allows.
-pub record Falters (old new : ServerView) (before after : Outbox) : Type 0 where
+pub record OutOfMemoryTurn (old new : ServerView) (before after : Outbox) : Type 0 where
   pub me : new.raft.me ≡ old.raft.me
   pub size : new.raft.size ≡ old.raft.size
   pub base : new.raft.base ≡ old.raft.base
@@ -90,7 +90,7 @@ pub record DoesNothing (old new : ServerView) (before after : Outbox) : Type 0 w
 -- definitions refuse it.
 abbrev pub DeclinesOwn : ServerView → Input → Refusal → ServerView → Outbox → Outbox → Type 0
 DeclinesOwn old input refusals.NoMemory new before after =
-    EachServer old (λ s. MayTakeMemory old.raft.size s input) × Falters old new before after
+    EachServer old (λ s. OutOfMemoryMayEnd old.raft.size s input) × OutOfMemoryTurn old new before after
 DeclinesOwn old input cause new before after =
     EachServer old (λ s. done old.raft.size old.raft.me s (act_of old input s) ≡ Err cause)
     × DoesNothing old new before after
@@ -100,13 +100,13 @@ DeclinesOwn old input cause new before after =
 -- a leader appended a command that nothing refused; its desk stays
 pub record IsProposed (s : Server) (c : Command) (new : ServerView) : Type 0 where
   pub leads : is_leader s.raft.mode ≡ true
-  pub admitted : raft_steps.admission_refusal cluster_meaning s.raft c ≡ None
-  pub server : IsServer new (record s { raft = extended s.raft c })
+  pub admitted : raft_steps.admission_refusal cluster_spec s.raft c ≡ None
+  pub server : RefinesServer new (record s { raft = extended s.raft c })
 
 -- why the log refuses a command
 abbrev pub WhyNotProposed : Raft Command → Command → Refusal → Type 0
 WhyNotProposed s c refusals.NoMemory = CanAppend s
-WhyNotProposed s c cause = raft_steps.proposes cluster_meaning s c ≡ Err cause
+WhyNotProposed s c cause = raft_steps.proposes cluster_spec s c ≡ Err cause
 
 -- ---- a turn of a node's drain
 

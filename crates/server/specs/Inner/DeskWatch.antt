@@ -2,7 +2,7 @@
 use Rattle.std.specs.Prelude.{◌≡◌, ℕ, Bool, true, false, ◌==◌, Option, Some, None}
 use Rattle.rows.specs.declared.command.Command.{Command}
 use Rattle.machine_model.specs.declared.entry.Entry.{Entry}
-use Rattle.cluster_model.specs.Words.{State}
+use Rattle.fsm_model.specs.Words.{State}
 use Rattle.leader.specs.OpenDesks.{OpenDesk, IsOpenedBy}
 use Rattle.leader.specs.Staying.{FollowsIfOpen}
 

@@ -2,7 +2,7 @@
 use Rattle.std.specs.Prelude.{ℕ, Bool, true, Option, Some, None, List}
 use Rattle.rows.specs.declared.allocation.Allocation.{Allocation}
 use Rattle.rows.specs.declared.command.Report.{Report}
-use Rattle.cluster_model.specs.Words.{State, alloc_of}
+use Rattle.fsm_model.specs.Words.{State, alloc_of}
 use Rattle.group_model.specs.ClientRequests.{is_unmoved}
 
 -- a row stays as it is, if there is one

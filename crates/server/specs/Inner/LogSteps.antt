@@ -9,10 +9,10 @@ use Rattle.raft_core.specs.declared.input.Input.{Input as RaftInput}
 use Rattle.raft_core.specs.declared.input.Input.TheVariants as raft_inputs
 use Rattle.raft_core.specs.RaftView.{SameNumber}
 use Rattle.raft_core.specs.Frames.{Means}
-use Rattle.cluster_model.specs.Words.{State}
-use Rattle.cluster_model.specs.ClusterMachine.{cluster_meaning}
+use Rattle.fsm_model.specs.Words.{State}
+use Rattle.fsm_model.specs.ClusterMachine.{cluster_spec}
 use Rattle.group_model.specs.Messages.{GroupMessage, OfLog, Service}
-use Rattle.group_model.specs.Inputs.{Restart, Ask, AskTimeout, AskBeat, AskCompact, AskCrash, AskRestart, asks}
+use Rattle.group_model.specs.Inputs.{Restart, Ask, AskTimeout, AskHeartbeat, AskCompact, AskCrash, AskRestart, asks}
 use Rattle.group_model.specs.Servers.{Server, takes_log_message}
 use Rattle.group_frames.specs.GroupFrames.{service_of}
 use Rattle.leader.specs.OpenDesks.{OpenDesk}
@@ -20,8 +20,8 @@ use Rattle.server.specs.declared.server.Outbox.{Outbox}
 use Rattle.server.specs.ServerViews.{ServerView}
 use Rattle.group_inputs.specs.Handings.{Handing, OwnInput}
 use Rattle.server.specs.Steps.{TakesTurn, TakesHanding, takes_in}
-use Rattle.server.specs.Refusals.{MayLackMemory, handing_refusal, wrong_address}
-use Rattle.server.specs.Inner.Acts.{EachServer, EachDoes, Falters, DoesNothing}
+use Rattle.server.specs.Refusals.{MayEndOutOfMemory, handing_refusal, wrong_address}
+use Rattle.server.specs.Inner.Acts.{EachServer, EachDoes, OutOfMemoryTurn, DoesNothing}
 
 -- a desk, closed where the server does not lead
 abbrev pub where_leads : Bool → Option OpenDesk → Option OpenDesk
@@ -42,7 +42,7 @@ TakesLogMessage old said new before after =
 abbrev pub log_ask : RaftInput → Option Ask
 log_ask (raft_inputs.Frame bytes) = None
 log_ask raft_inputs.Timeout = Some AskTimeout
-log_ask raft_inputs.Beat = Some AskBeat
+log_ask raft_inputs.Beat = Some AskHeartbeat
 log_ask raft_inputs.Compact = Some AskCompact
 log_ask raft_inputs.Crash = Some AskCrash
 log_ask raft_inputs.Restart = Some AskRestart
@@ -56,7 +56,7 @@ TakesAsk old (Some ask) new before after =
 
 -- a message that was read is this one
 abbrev pub MeansGroup : WireMessage State Command → GroupMessage → Type 0
-MeansGroup read (OfLog said) = Means cluster_meaning read said
+MeansGroup read (OfLog said) = Means cluster_spec read said
 MeansGroup read (Service message) = service_of read ≡ Some message
 
 abbrev pub TakesRead : ServerView → Server → WireMessage State Command → ServerView → Outbox → Outbox → Type 0
@@ -66,7 +66,7 @@ TakesRead old s read new before after =
 
 -- it is refused: for want of memory, or for its sender or receiver
 abbrev pub DeclinesRead : ServerView → WireMessage State Command → Refusal → ServerView → Outbox → Outbox → Type 0
-DeclinesRead old read refusals.NoMemory new before after = Falters old new before after
+DeclinesRead old read refusals.NoMemory new before after = OutOfMemoryTurn old new before after
 DeclinesRead old read cause new before after =
     EachServer old (λ s. wrong_address old.raft.size old.raft.me read.from read.to ≡ Some cause)
     × DoesNothing old new before after
@@ -84,7 +84,7 @@ pub record IsRead (old : ServerView) (read : WireMessage State Command) (result 
 abbrev pub LosesIn : ServerView → Handing → ServerView → Outbox → Outbox → Type 0
 LosesIn old (OwnInput Restart) new before after = ⊥
 LosesIn old h new before after =
-    EachServer old (λ s. MayLackMemory old.raft.size s h) × Falters old new before after
+    EachServer old (λ s. MayEndOutOfMemory old.raft.size s h) × OutOfMemoryTurn old new before after
 
 abbrev pub DeclinesHanding : ServerView → Handing → Refusal → ServerView → Outbox → Outbox → Type 0
 DeclinesHanding old h refusals.NoMemory new before after = LosesIn old h new before after

@@ -1,14 +1,14 @@
 //! Clients that ask.
 ghost use Rattle.std.specs.Prelude.{◌≡◌, true, OnOk, OnErr, IfOk};
-ghost use Rattle.raft_model.specs.Rafts.{Raft as LogServer, is_up, is_leader};
-ghost use Rattle.raft_core.specs.Steps.{Represents};
+ghost use Rattle.raft_model.specs.Rafts.{Raft as AnyRaft, is_up, is_leader};
+ghost use Rattle.raft_core.specs.Steps.{Refines};
 ghost use Rattle.rows.specs.declared.command.Command.{Command};
-ghost use Rattle.cluster_model.specs.ClusterMachine.{cluster_meaning};
+ghost use Rattle.fsm_model.specs.ClusterMachine.{cluster_spec};
 ghost use Rattle.raft_core.specs.RaftView.{SameNumber, SameRaft};
-ghost use Rattle.group_model.specs.Desks.{whole_state};
+ghost use Rattle.group_model.specs.Desks.{projected_state};
 ghost use Rattle.group_model.specs.Messages.{Register, Heartbeat, Pull, ReportStates};
 ghost use Rattle.group_model.specs.ClientRequests.{is_taken_already};
-ghost use Rattle.server.specs.Inner.Acts.{EachDoes, Falters, client_act, write_act};
+ghost use Rattle.server.specs.Inner.Acts.{EachDoes, OutOfMemoryTurn, client_act, write_act};
 
 use super::idle::is_idle;
 use super::listing::listed;
@@ -35,9 +35,9 @@ fn node_of(client: ClientId) -> NodeId
 /// Whether the state after a leader's whole log admits the command, and it would change no row.
 fn is_taken_already(raft: &mut Raft<Cluster>, command: &Command) -> Result<bool, NoMemory>
     requires { is_leader raft.old.server.mode ≡ true }
-    ensures value { IfOk result (λ b. (s : LogServer Command) →
-        Represents cluster_meaning raft.old s →
-        b ≡ is_taken_already (whole_state s) command.now) }
+    ensures value { IfOk result (λ b. (s : AnyRaft Command) →
+        Refines cluster_spec raft.old s →
+        b ≡ is_taken_already (projected_state s) command.now) }
     ensures same { SameRaft raft.old raft.new }
 {
     match raft.projected() {
@@ -66,7 +66,7 @@ impl Server {
         ensures same { SameNumber self.old.raft self.new.raft }
         ensures taken { OnOk result (EachDoes self.old (write_act self.old client kind command)
             self.new outbox.old outbox.new) }
-        ensures lost { OnErr result (Falters self.old self.new outbox.old outbox.new) }
+        ensures lost { OnErr result (OutOfMemoryTurn self.old self.new outbox.old outbox.new) }
     {
         let me = self.raft.me();
         if !self.leads() {
@@ -104,7 +104,7 @@ impl Server {
         ensures taken { OnOk result (
             EachDoes self.old (client_act self.old client (Register class size))
             self.new outbox.old outbox.new) }
-        ensures lost { OnErr result (Falters self.old self.new outbox.old outbox.new) }
+        ensures lost { OnErr result (OutOfMemoryTurn self.old self.new outbox.old outbox.new) }
     {
         let kind = ClientRequestKind::Register;
         let spec = NodeSpec {
@@ -128,7 +128,7 @@ impl Server {
         ensures taken { OnOk result (
             EachDoes self.old (client_act self.old client (ReportStates items))
             self.new outbox.old outbox.new) }
-        ensures lost { OnErr result (Falters self.old self.new outbox.old outbox.new) }
+        ensures lost { OnErr result (OutOfMemoryTurn self.old self.new outbox.old outbox.new) }
     {
         let kind = ClientRequestKind::Report;
         self.write(
@@ -149,7 +149,7 @@ impl Server {
         ensures same { SameNumber self.old.raft self.new.raft }
         ensures taken { OnOk result (EachDoes self.old (client_act self.old client Heartbeat)
             self.new outbox.old outbox.new) }
-        ensures lost { OnErr result (Falters self.old self.new outbox.old outbox.new) }
+        ensures lost { OnErr result (OutOfMemoryTurn self.old self.new outbox.old outbox.new) }
     {
         let me = self.raft.me();
         let kind = ClientRequestKind::Heartbeat;

@@ -16,7 +16,7 @@ ghost use Rattle.server.specs.SentBytes.{bytes_at};
 ghost use Rattle.server.specs.Steps.{TakesTurn};
 ghost use Rattle.server.specs.Refusals.{is_of_group};
 ghost use Rattle.server.specs.Answers.{HandedIn};
-ghost use Rattle.server.specs.Inner.Acts.{EachServer, EachDoes, Falters, request_act};
+ghost use Rattle.server.specs.Inner.Acts.{EachServer, EachDoes, OutOfMemoryTurn, request_act};
 ghost use Rattle.server.specs.Inner.Sources.{source_bytes};
 ghost use Rattle.server.specs.Inner.LogSteps.{IsTaken, IsRead};
 
@@ -80,11 +80,11 @@ impl Server {
             return Err(Refusal::Down);
         }
         let sent = outbox.frames.len();
-        match self.take_frame(source, outbox) {
+        match self.handle_frame(source, outbox) {
             Ok(()) => Ok(()),
             Err(cause) => match cause {
                 Refusal::NoMemory => {
-                    self.collapse(sent, outbox);
+                    self.crash_in_step(sent, outbox);
                     Err(Refusal::NoMemory)
                 }
                 other => Err(other),
@@ -93,7 +93,7 @@ impl Server {
     }
 
     /// A frame comes to a server that is up.
-    pub(super) fn take_frame(
+    pub(super) fn handle_frame(
         &mut self,
         source: Source<'_>,
         outbox: &mut Outbox,
@@ -105,15 +105,19 @@ impl Server {
         let bytes = bytes_from(source, &outbox.frames);
         if is_log_frame(bytes) {
             let message = read_log_message::<Cluster>(self.alloc, bytes)?;
-            return self.take_log_message(message, outbox);
+            return self.handle_log_message(message, outbox);
         }
-        self.take_service_frame(source, outbox)
+        self.handle_service_frame(source, outbox)
     }
 
     /// A frame beside the log's comes to a server that is up. What it carries is large: so this
     /// stands apart from what the frames of the log go through.
     #[inline(never)]
-    fn take_service_frame(&mut self, source: Source<'_>, outbox: &mut Outbox) -> Result<(), Refusal>
+    fn handle_service_frame(
+        &mut self,
+        source: Source<'_>,
+        outbox: &mut Outbox,
+    ) -> Result<(), Refusal>
         requires up { is_up self.old.raft.server.mode ≡ true }
         requires service { is_log_frame (source_bytes source outbox.old.frames) ≡ false }
         ensures { IsTaken self.old (FrameBytes (source_bytes source.entry outbox.old.frames)) result
@@ -121,12 +125,12 @@ impl Server {
     {
         let bytes = bytes_from(source, &outbox.frames);
         let message = read_message::<Cluster>(self.alloc, bytes)?;
-        self.take_service_message(message, outbox)
+        self.handle_service_message(message, outbox)
     }
 
     /// A message of the log comes to a server that is up.
     #[inline(always)]
-    fn take_log_message(
+    fn handle_log_message(
         &mut self,
         message: LogMessage<Cluster>,
         outbox: &mut Outbox,
@@ -136,11 +140,11 @@ impl Server {
         requires goes { may_go (kind_of message.body) message.from message.to ≡ true }
         ensures { IsRead self.old message result self.new outbox.old outbox.new }
     {
-        self.hand_to_log(message, outbox)
+        self.handle_in_log(message, outbox)
     }
 
     /// A message beside the log's comes to a server that is up.
-    fn take_service_message(
+    fn handle_service_message(
         &mut self,
         message: Message<Cluster>,
         outbox: &mut Outbox,
@@ -208,7 +212,7 @@ impl Server {
             service_between from (actors.Server self.old.raft.me) body ≡ Some message →
             TakesTurn (step self.old.raft.size self.old.raft.me s (Arrives message))
             self.new outbox.old outbox.new)) }
-        ensures lost { OnErr result (Falters self.old self.new outbox.old outbox.new) }
+        ensures lost { OnErr result (OutOfMemoryTurn self.old self.new outbox.old outbox.new) }
     {
         match body {
             Body::Request(request) => {
@@ -265,7 +269,7 @@ impl Server {
         ensures same { SameNumber self.old.raft self.new.raft }
         ensures taken { OnOk result (EachDoes self.old (request_act self.old from request) self.new
             outbox.old outbox.new) }
-        ensures lost { OnErr result (Falters self.old self.new outbox.old outbox.new) }
+        ensures lost { OnErr result (OutOfMemoryTurn self.old self.new outbox.old outbox.new) }
     {
         match request {
             WorkerRequest::Take => self.serve_take(from, outbox),

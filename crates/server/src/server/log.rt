@@ -7,7 +7,7 @@ ghost use Rattle.raft_model.specs.Rafts.{is_leader};
 ghost use Rattle.raft_core.specs.Frames.{Means};
 ghost use Rattle.raft_core.specs.Inputs.{handed};
 ghost use Rattle.raft_core.specs.Refusals.{message_refusal, HidesNothing, IsRefused, IsMessageRefused, Stays, MessageStays};
-ghost use Rattle.cluster_model.specs.ClusterMachine.{cluster_meaning};
+ghost use Rattle.fsm_model.specs.ClusterMachine.{cluster_spec};
 ghost use Rattle.server.specs.Inner.Acts.{EachServer};
 ghost use Rattle.server.specs.Inner.LogSteps.{where_leads, DeskAfterRefusal, TakesLogMessage, TakesAsk, log_ask};
 
@@ -30,14 +30,14 @@ fn close_unless_leading(raft: &Raft<Cluster>, desk: &mut ServerDesk)
 impl Server {
     /// A message of the log is handed to it, and the desk follows.
     #[inline(always)]
-    pub(super) fn hand_to_log(
+    pub(super) fn handle_in_log(
         &mut self,
         message: LogMessage<Cluster>,
         outbox: &mut Outbox,
     ) -> Result<(), Refusal>
         ensures same { SameNumber self.old.raft self.new.raft }
         ensures taken { OnOk result ((said : MessageOf Command) →
-            Means cluster_meaning message said →
+            Means cluster_spec message said →
             TakesLogMessage self.old said self.new outbox.old outbox.new) }
         ensures admitted { OnOk result (EachServer self.old (λ s.
             message_refusal self.old.raft.size self.old.raft.me s.raft message ≡ None)) }
@@ -61,10 +61,10 @@ impl Server {
         ensures taken { OnOk result (TakesAsk self.old (log_ask input.entry) self.new outbox.old
             outbox.new) }
         ensures refused { IfErr result (λ cause. EachServer self.old (λ s.
-            IsRefused cluster_meaning self.old.raft.size self.old.raft.me s.raft
+            IsRefused cluster_spec self.old.raft.size self.old.raft.me s.raft
             (handed input.entry) cause)) }
         ensures unhidden { IfErr result (λ cause. EachServer self.old (λ s.
-            HidesNothing cluster_meaning self.old.raft.size self.old.raft.me s.raft
+            HidesNothing cluster_spec self.old.raft.size self.old.raft.me s.raft
             (handed input.entry) cause)) }
         ensures stays { IfErr result (λ cause.
             Stays (handed input.entry) cause self.old.raft self.new.raft) }

@@ -7,7 +7,7 @@ ghost use Rattle.group_model.specs.Acceptance.{keeps_some};
 ghost use Rattle.group_model.specs.Desks.{QueuedPlan as AnyQueuedPlan};
 ghost use Rattle.plan_apply.specs.Answers.{kept_by};
 ghost use Rattle.leader.specs.Verdicts.{judged_by, IsProposal};
-ghost use Rattle.server.specs.Inner.Acts.{EachDoes, Falters, Serves};
+ghost use Rattle.server.specs.Inner.Acts.{EachDoes, OutOfMemoryTurn, Serves};
 ghost use Rattle.server.specs.Inner.Plans.{settling, RefusesRising, KeptOf, kept_with, result_with};
 
 use super::replies::{send_refusal, send_response};
@@ -79,7 +79,7 @@ impl Server {
             OnOk result ((w : AnyQueuedPlan) → KeptOf from accepted.plan a w →
             EachDoes self.old (settling self.old (record { queued = w; kept = Ok a }))
             self.new outbox.old outbox.new) }
-        ensures lost { OnErr result (Falters self.old self.new outbox.old outbox.new) }
+        ensures lost { OnErr result (OutOfMemoryTurn self.old self.new outbox.old outbox.new) }
     {
         let me = self.raft.me();
         let last = self.raft.last();
@@ -109,14 +109,18 @@ impl Server {
     }
 
     /// What becomes of a plan that was judged.
-    pub(super) fn settle(&mut self, judged: JudgedPlan, outbox: &mut Outbox) -> Result<(), NoMemory>
+    pub(super) fn conclude_plan(
+        &mut self,
+        judged: JudgedPlan,
+        outbox: &mut Outbox,
+    ) -> Result<(), NoMemory>
         requires serves { Serves self.old }
         requires proposal { IsProposal judged }
         requires rises { RefusesRising (judged_by judged) }
         ensures same { SameNumber self.old.raft self.new.raft }
         ensures taken { OnOk result (EachDoes self.old (settling self.old (judged_by judged))
             self.new outbox.old outbox.new) }
-        ensures lost { OnErr result (Falters self.old self.new outbox.old outbox.new) }
+        ensures lost { OnErr result (OutOfMemoryTurn self.old self.new outbox.old outbox.new) }
     {
         let JudgedPlan { queued, kept } = judged;
         let QueuedPlan { plan, from, .. } = queued;

@@ -3,13 +3,13 @@ ghost use Rattle.std.specs.Prelude.{◌≡◌, ◌≢◌, true, Ok, Err, OnOk, O
 ghost use Rattle.raft_core.specs.RaftView.{SameNumber};
 ghost use Rattle.rows.specs.declared.refusal.Refusal.TheVariants as refusals;
 ghost use Rattle.rows.specs.declared.worker.WorkerRequest.TheVariants as requests;
-ghost use Rattle.raft_model.specs.Rafts.{Raft as LogServer, is_up};
-ghost use Rattle.raft_core.specs.Steps.{Represents};
+ghost use Rattle.raft_model.specs.Rafts.{Raft as AnyRaft, is_up};
+ghost use Rattle.raft_core.specs.Steps.{Refines};
 ghost use Rattle.rows.specs.declared.command.Command.{Command};
-ghost use Rattle.cluster_model.specs.ClusterMachine.{cluster_meaning};
+ghost use Rattle.fsm_model.specs.ClusterMachine.{cluster_spec};
 ghost use Rattle.group_model.specs.Desks.{applied_state};
 ghost use Rattle.leader.specs.OpenDesks.{at_open, on_submit};
-ghost use Rattle.server.specs.Inner.Acts.{EachDoes, Falters, request_act, response_act};
+ghost use Rattle.server.specs.Inner.Acts.{EachDoes, OutOfMemoryTurn, request_act, response_act};
 
 use super::replies::{send_refusal, send_response};
 use super::{Outbox, Server};
@@ -25,11 +25,11 @@ use rows::{
 #[tactic(auto, using(crate::proofs::DeskCalls::not_lacking))]
 fn submit(raft: &Raft<Cluster>, desk: &mut Desk, from: ServerId, plan: Plan) -> Result<(), Refusal>
     requires { is_up raft.now.server.mode ≡ true }
-    ensures ok { IfOk result (λ u. (s : LogServer Command) →
-        Represents cluster_meaning raft.now s →
+    ensures ok { IfOk result (λ u. (s : AnyRaft Command) →
+        Refines cluster_spec raft.now s →
         at_open (on_submit from (applied_state s) plan) desk.old ≡ Ok (u, desk.new)) }
-    ensures err { IfErr result (λ e. (s : LogServer Command) →
-        Represents cluster_meaning raft.now s → e ≢ refusals.NoMemory →
+    ensures err { IfErr result (λ e. (s : AnyRaft Command) →
+        Refines cluster_spec raft.now s → e ≢ refusals.NoMemory →
         at_open (on_submit from (applied_state s) plan) desk.old ≡ Err e) }
     ensures left { OnErr result (desk.new ≡ desk.old) }
 {
@@ -46,7 +46,7 @@ impl Server {
         ensures same { SameNumber self.old.raft self.new.raft }
         ensures taken { OnOk result (EachDoes self.old (request_act self.old from requests.Take)
             self.new outbox.old outbox.new) }
-        ensures lost { OnErr result (Falters self.old self.new outbox.old outbox.new) }
+        ensures lost { OnErr result (OutOfMemoryTurn self.old self.new outbox.old outbox.new) }
     {
         let me = self.raft.me();
         let asked = AskedRequest::Take;
@@ -76,7 +76,7 @@ impl Server {
         ensures taken { OnOk result (
             EachDoes self.old (request_act self.old from (requests.Submit plan))
             self.new outbox.old outbox.new) }
-        ensures lost { OnErr result (Falters self.old self.new outbox.old outbox.new) }
+        ensures lost { OnErr result (OutOfMemoryTurn self.old self.new outbox.old outbox.new) }
     {
         let me = self.raft.me();
         let asked = AskedRequest::Submit(plan.eval, plan.token);
@@ -106,7 +106,7 @@ impl Server {
         ensures taken { OnOk result (
             EachDoes self.old (request_act self.old from (requests.Finish eval token outcome))
             self.new outbox.old outbox.new) }
-        ensures lost { OnErr result (Falters self.old self.new outbox.old outbox.new) }
+        ensures lost { OnErr result (OutOfMemoryTurn self.old self.new outbox.old outbox.new) }
     {
         let me = self.raft.me();
         let (eval, token) = (&eval, &token);
@@ -142,7 +142,7 @@ impl Server {
         ensures taken { OnOk result (
             EachDoes self.old (request_act self.old from (requests.Nack eval token))
             self.new outbox.old outbox.new) }
-        ensures lost { OnErr result (Falters self.old self.new outbox.old outbox.new) }
+        ensures lost { OnErr result (OutOfMemoryTurn self.old self.new outbox.old outbox.new) }
     {
         let me = self.raft.me();
         let (eval, token) = (&eval, &token);

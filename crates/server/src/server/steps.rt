@@ -34,14 +34,14 @@ impl Server {
         ensures { HandedIn self.old (handing input) result self.new outbox.old outbox.new }
     {
         if !self.raft.is_up() {
-            return self.wake(input, outbox);
+            return self.restart_only(input, outbox);
         }
         let sent = outbox.frames.len();
-        match self.act(input, outbox) {
+        match self.handle_input(input, outbox) {
             Ok(()) => Ok(()),
             Err(cause) => match cause {
                 Refusal::NoMemory => {
-                    self.collapse(sent, outbox);
+                    self.crash_in_step(sent, outbox);
                     Err(Refusal::NoMemory)
                 }
                 other => Err(other),
@@ -50,7 +50,7 @@ impl Server {
     }
 
     /// One that is down takes a restart alone.
-    fn wake(&mut self, input: ServerInput, outbox: &mut Outbox) -> Result<(), Refusal>
+    fn restart_only(&mut self, input: ServerInput, outbox: &mut Outbox) -> Result<(), Refusal>
         requires { is_up self.old.raft.server.mode ≡ false }
         ensures same { SameNumber self.old.raft self.new.raft }
         ensures taken { OnOk result (EachServer self.old (λ s.
@@ -70,12 +70,12 @@ impl Server {
     }
 
     /// One that is up takes an input. Want of memory may leave it in the middle of the step.
-    fn act(&mut self, input: ServerInput, outbox: &mut Outbox) -> Result<(), Refusal>
+    fn handle_input(&mut self, input: ServerInput, outbox: &mut Outbox) -> Result<(), Refusal>
         requires { is_up self.old.raft.server.mode ≡ true }
         ensures { IsTaken self.old (handing input) result self.new outbox.old outbox.new }
     {
         match input {
-            ServerInput::Frame(bytes) => self.take_frame(Source::Apart(bytes.as_slice()), outbox),
+            ServerInput::Frame(bytes) => self.handle_frame(Source::Apart(bytes.as_slice()), outbox),
             ServerInput::Timeout => self.step_log(Input::Timeout, outbox),
             ServerInput::Beat => self.step_log(Input::Beat, outbox),
             ServerInput::Request(request) => self.propose(request.into_command()),
@@ -101,7 +101,7 @@ impl Server {
 
     /// Memory was wanting in the middle of a step: the server is down, and nothing of the step was
     /// sent. It takes no memory.
-    pub(super) fn collapse(&mut self, sent: usize, outbox: &mut Outbox)
+    pub(super) fn crash_in_step(&mut self, sent: usize, outbox: &mut Outbox)
         ensures same { SameNumber self.old.raft self.new.raft }
         ensures raft { IsCrashOf self.old.raft self.new.raft }
         ensures desk { self.new.desk ≡ None }

@@ -1,13 +1,13 @@
 //! What a server stores, and a server that starts with it.
 ghost use Rattle.std.specs.Prelude.{◌≡◌, OnOk, IfOk, IfErr};
 ghost use Rattle.rows.specs.declared.command.Command.{Command};
-ghost use Rattle.raft_model.specs.Rafts.{Raft as LogServer};
+ghost use Rattle.raft_model.specs.Rafts.{Raft as AnyRaft};
 ghost use Rattle.raft_core.specs.Steps.{Stores, IsGroupMember};
 ghost use Rattle.raft_core.specs.StoredParts.{stored_part};
 ghost use Rattle.raft_core.specs.Refusals.{WhyNot};
-ghost use Rattle.cluster_model.specs.ClusterMachine.{cluster_meaning};
+ghost use Rattle.fsm_model.specs.ClusterMachine.{cluster_spec};
 ghost use Rattle.group_model.specs.Servers.{Server as AnyServer};
-ghost use Rattle.server.specs.ServerViews.{IsServer, restarted_server};
+ghost use Rattle.server.specs.ServerViews.{RefinesServer, restarted_server};
 
 use super::Server;
 use crate::server_desk::ServerDesk;
@@ -31,8 +31,8 @@ impl Server {
         ensures member { OnOk result (IsGroupMember size me) }
         ensures number { IfOk result (λ r. (r.raft.me ≡ me) × (r.raft.size ≡ size)) }
         ensures shown { IfOk result (λ r. stored_part r.raft ≡ stable) }
-        ensures server { IfOk result (λ r. (s : LogServer Command) →
-            Stores cluster_meaning stable s → IsServer r (restarted_server s)) }
+        ensures server { IfOk result (λ r. (s : AnyRaft Command) →
+            Stores cluster_spec stable s → RefinesServer r (restarted_server s)) }
         ensures refused { IfErr result (λ e. (e.stable ≡ stable) × WhyNot size me e.refusal) }
     {
         let raft = Raft::restart(alloc, me, size, stable)?;
@@ -46,7 +46,8 @@ impl Server {
     /// What it stores; the rest is gone.
     pub fn into_stable(self) -> Stable<Cluster>
         ensures shown { result ≡ stored_part self.raft }
-        ensures stored { (s : AnyServer) → IsServer self s → Stores cluster_meaning result s.raft }
+        ensures stored { (s : AnyServer) → RefinesServer self s →
+            Stores cluster_spec result s.raft }
     {
         let Server { raft, .. } = self;
         raft.into_stable()
@@ -56,8 +57,8 @@ impl Server {
     /// entries behind that. `NoMemory` where there is no memory for it.
     pub fn stable(&self) -> Result<Stable<Cluster>, NoMemory>
         ensures shown { IfOk result (λ copy. copy ≡ stored_part self.now.raft) }
-        ensures stored { IfOk result (λ copy. (s : AnyServer) → IsServer self.now s →
-            Stores cluster_meaning copy s.raft) }
+        ensures stored { IfOk result (λ copy. (s : AnyServer) → RefinesServer self.now s →
+            Stores cluster_spec copy s.raft) }
     {
         self.raft.stable()
     }

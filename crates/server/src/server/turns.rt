@@ -1,15 +1,15 @@
 //! Turns of the desk.
 ghost use Rattle.std.specs.Prelude.{◌≡◌, ◌⊎◌, true, is_some, option_map, None, Ok, Err, OnOk, OnErr, IfOk, IfErr, IfSome};
-ghost use Rattle.raft_model.specs.Rafts.{Raft as LogServer, is_up, is_leader};
-ghost use Rattle.raft_core.specs.Steps.{Represents};
+ghost use Rattle.raft_model.specs.Rafts.{Raft as AnyRaft, is_up, is_leader};
+ghost use Rattle.raft_core.specs.Steps.{Refines};
 ghost use Rattle.rows.specs.declared.command.Command.{Command};
-ghost use Rattle.cluster_model.specs.ClusterMachine.{cluster_meaning};
-ghost use Rattle.cluster_model.specs.Words.{State};
+ghost use Rattle.fsm_model.specs.ClusterMachine.{cluster_spec};
+ghost use Rattle.fsm_model.specs.Words.{State};
 ghost use Rattle.raft_core.specs.RaftView.{SameNumber, SameRaft};
 ghost use Rattle.rows.specs.Keys.{eval_id};
 ghost use Rattle.rows.specs.declared.refusal.Refusal.TheVariants as refusals;
 ghost use Rattle.group_model.specs.Blocked.{first_due};
-ghost use Rattle.group_model.specs.Desks.{applied_state, whole_state};
+ghost use Rattle.group_model.specs.Desks.{applied_state, projected_state};
 ghost use Rattle.leader.specs.OpenDesks.{IsOverBlocked, if_open, at_open, on_expire, on_reap};
 ghost use Rattle.leader.specs.Verdicts.{judged_by, IsProposal, on_plan_turn};
 ghost use Rattle.group_model.specs.Inputs.{PlanTurn, Lapse, Expire, DrainTurn, FreeTurn, Reap};
@@ -29,9 +29,10 @@ fn judge_first(raft: &mut Raft<Cluster>, desk: &mut Desk) -> Result<Option<Judge
     requires leads { is_leader raft.old.server.mode ≡ true }
     requires is_open { is_some desk.old ≡ true }
     ensures same { SameRaft raft.old raft.new }
-    ensures turn { IfOk result (λ j. (s : LogServer Command) →
-        Represents cluster_meaning raft.old s →
-        at_open (on_plan_turn (whole_state s)) desk.old ≡ Ok (option_map judged_by j, desk.new)) }
+    ensures turn { IfOk result (λ j. (s : AnyRaft Command) →
+        Refines cluster_spec raft.old s →
+        at_open (on_plan_turn (projected_state s)) desk.old
+        ≡ Ok (option_map judged_by j, desk.new)) }
     ensures whole { IfOk result (λ j. (whole : State)
         × (at_open (on_plan_turn whole) desk.old ≡ Ok (option_map judged_by j, desk.new))) }
     ensures proposal { IfOk result (λ j. IfSome j IsProposal) }
@@ -61,11 +62,11 @@ fn expire_step(
     beats: Index,
 ) -> Result<Command, Refusal>
     requires { is_up raft.now.server.mode ≡ true }
-    ensures value { IfOk result (λ c. (s : LogServer Command) →
-        Represents cluster_meaning raft.now s →
+    ensures value { IfOk result (λ c. (s : AnyRaft Command) →
+        Refines cluster_spec raft.now s →
         if_open (on_expire node beats (applied_state s)) desk.now ≡ Ok c) }
-    ensures err { IfErr result (λ e. (s : LogServer Command) →
-        Represents cluster_meaning raft.now s →
+    ensures err { IfErr result (λ e. (s : AnyRaft Command) →
+        Refines cluster_spec raft.now s →
         if_open (on_expire node beats (applied_state s)) desk.now ≡ Err e) }
 {
     let Some(applied) = raft.machine() else {
@@ -83,10 +84,10 @@ fn drain_step(
     requires leads { is_leader raft.old.server.mode ≡ true }
     requires is_open { is_some desk.now ≡ true }
     ensures same { SameRaft raft.old raft.new }
-    ensures value { let d = group_desk desk.now in IfOk result (λ c. (s : LogServer Command) →
-        Represents cluster_meaning raft.old s → drain_at s d node ≡ Ok (proposes_if_any d c)) }
-    ensures err { let d = group_desk desk.now in IfErr result (λ e. (s : LogServer Command) →
-        Represents cluster_meaning raft.old s →
+    ensures value { let d = group_desk desk.now in IfOk result (λ c. (s : AnyRaft Command) →
+        Refines cluster_spec raft.old s → drain_at s d node ≡ Ok (proposes_if_any d c)) }
+    ensures err { let d = group_desk desk.now in IfErr result (λ e. (s : AnyRaft Command) →
+        Refines cluster_spec raft.old s →
         (e ≡ refusals.NoMemory) ⊎ (drain_at s d node ≡ Err e)) }
 {
     match raft.projected() {
@@ -100,9 +101,9 @@ fn drain_step(
 fn first_freed(raft: &mut Raft<Cluster>, desk: &Desk) -> Result<Option<EvalId>, NoMemory>
     requires { is_leader raft.old.server.mode ≡ true }
     ensures same { SameRaft raft.old raft.new }
-    ensures value { IfOk result (λ id. (s : LogServer Command) →
-        Represents cluster_meaning raft.old s → IsOverBlocked (applied_state s) desk.now →
-        id ≡ option_map eval_id (first_due (applied_state s) (whole_state s))) }
+    ensures value { IfOk result (λ id. (s : AnyRaft Command) →
+        Refines cluster_spec raft.old s → IsOverBlocked (applied_state s) desk.now →
+        id ≡ option_map eval_id (first_due (applied_state s) (projected_state s))) }
 {
     match raft.projected() {
         Ok(whole) => match desk.free_turn(whole) {
@@ -118,8 +119,8 @@ fn first_reaped(raft: &mut Raft<Cluster>, desk: &Desk) -> Result<Option<EvalId>,
     requires leads { is_leader raft.old.server.mode ≡ true }
     requires is_open { is_some desk.now ≡ true }
     ensures same { SameRaft raft.old raft.new }
-    ensures value { IfOk result (λ id. (s : LogServer Command) →
-        Represents cluster_meaning raft.old s → if_open (on_reap (whole_state s)) desk.now ≡ Ok id) }
+    ensures value { IfOk result (λ id. (s : AnyRaft Command) →
+        Refines cluster_spec raft.old s → if_open (on_reap (projected_state s)) desk.now ≡ Ok id) }
 {
     match raft.projected() {
         Ok(whole) => match desk.reap(whole) {
@@ -142,7 +143,7 @@ impl Server {
     {
         self.open_desk()?;
         match judge_first(&mut self.raft, &mut self.desk.desk)? {
-            Some(judged) => Ok(self.settle(judged, outbox)?),
+            Some(judged) => Ok(self.conclude_plan(judged, outbox)?),
             None => Ok(()),
         }
     }

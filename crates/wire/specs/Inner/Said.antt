@@ -1,6 +1,6 @@
 -- What is said, as the body of a message.
 use Rattle.std.specs.Prelude.{◌≡◌, ◌≤◌, ◌<◌, ◌+◌, ◌^◌, length}
-use Rattle.machine_model.specs.Meaning.{Meaning}
+use Rattle.machine_model.specs.MachineSpec.{MachineSpec}
 use Rattle.wire.specs.declared.body.Body.{Body}
 use Rattle.wire.specs.declared.body.Body.TheVariants as bodies
 use Rattle.wire.specs.declared.body.Said.{Said}
@@ -16,10 +16,10 @@ said_body (said.State head state) =
 
 -- Entries are at most 32, and each has a place below 2^40; a state has seen as many commands as the
 -- index says, one at least.
-abbrev pub IsInRange : {S C : Type 0} → Meaning S C → Said S C → Type 0
-IsInRange meaning (said.Body body) = Unit {0}
-IsInRange meaning (said.Answer reply) = Unit {0}
-IsInRange meaning (said.Entries head entries) =
+abbrev pub IsInRange : {S C : Type 0} → MachineSpec S C → Said S C → Type 0
+IsInRange spec (said.Body body) = Unit {0}
+IsInRange spec (said.Answer reply) = Unit {0}
+IsInRange spec (said.Entries head entries) =
     (length entries.now ≤ 32) × (head.now.prev_index + length entries.now < 2 ^ 40)
-IsInRange meaning (said.State head state) =
-    (1 ≤ head.now.index) × (meaning.count state.now ≡ head.now.index)
+IsInRange spec (said.State head state) =
+    (1 ≤ head.now.index) × (spec.count state.now ≡ head.now.index)

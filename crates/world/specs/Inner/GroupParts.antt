@@ -9,9 +9,9 @@ use Rattle.group_model.specs.Worlds.{Event, AtServer, AtClient}
 use Rattle.group_inputs.specs.declared.client_input.ClientInput.{ClientInput}
 use Rattle.client_agent.specs.AgentView.{AgentView}
 use Rattle.server.specs.declared.server.Outbox.{Outbox}
-use Rattle.server.specs.ServerViews.{ServerView, IsServer, SameServer}
+use Rattle.server.specs.ServerViews.{ServerView, RefinesServer, SameServer}
 use Rattle.group_inputs.specs.Handings.{Handing}
-use Rattle.actor.specs.Refusals.{RefusedSo, ServerRefuses, ServerMayLack, ClientRefuses, ClientMayLack}
+use Rattle.actor.specs.Refusals.{RefusedSo, ServerRefuses, ServerMayEndOutOfMemory, ClientRefuses, ClientMayEndOutOfMemory}
 use Rattle.actor.specs.Answers.{ServerSteps, ServerCrashed, ServerStays, ClientSteps, ClientCrashed}
 use Rattle.world.specs.declared.done.Done.{Done}
 use Rattle.world.specs.declared.done.Done.TheVariants.{Taken, Crashed}
@@ -32,12 +32,12 @@ module _ (server : ServerView) (past : GroupHistoryView) (h : Handing) (e : Even
   pub record ServerTook (after : ServerView) (now : GroupHistoryView) : Type 0 where
     pub steps : ServerSteps server h after past.outbox now.outbox
     pub trace : now.trace ≡ past.trace ++ e ∷ []
-    pub chain : (s : Server) → IsServer after s → now.chain ≡ max past.chain (committed s.raft)
+    pub chain : (s : Server) → RefinesServer after s → now.chain ≡ max past.chain (committed s.raft)
 
   -- it found no memory, and crashed
   pub record ServerFell (i : ℕ) (after : ServerView) (now : GroupHistoryView) : Type 0 where
     pub crashed : ServerCrashed server after
-    pub lacks : ServerMayLack server h
+    pub lacks : ServerMayEndOutOfMemory server h
     pub outbox : now.outbox ≡ past.outbox
     pub trace : now.trace ≡ past.trace ++ AtServer i inputs.Crash ∷ []
     pub chain : now.chain ≡ past.chain
@@ -61,7 +61,7 @@ module _ (client : AgentView) (past : GroupHistoryView) (given : ClientInput) (e
   -- it found no memory, and crashed
   pub record ClientFell (c : ℕ) (after : AgentView) (now : GroupHistoryView) : Type 0 where
     pub crashed : ClientCrashed client after
-    pub lacks : ClientMayLack client given
+    pub lacks : ClientMayEndOutOfMemory client given
     pub outbox : now.outbox ≡ past.outbox
     pub trace : now.trace ≡ past.trace ++ AtClient c agents.Crash ∷ []
     pub chain : now.chain ≡ past.chain

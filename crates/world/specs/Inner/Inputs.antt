@@ -3,7 +3,7 @@ use Rattle.std.specs.Prelude.{◌≡◌, ℕ, ◌<◌, if◌then◌else◌, Bool
 use Rattle.std.specs.List.{AllZip}
 use Rattle.rows.specs.declared.refusal.Refusal.{Refusal}
 use Rattle.rows.specs.declared.refusal.Refusal.TheVariants as refusals
-use Rattle.machine_model.specs.Meaning.{Meaning}
+use Rattle.machine_model.specs.MachineSpec.{MachineSpec}
 use Rattle.wire.specs.Frames.{Frame}
 use Rattle.raft_model.specs.Rafts.{Raft, is_up}
 use Rattle.raft_model.specs.Steps.{Timeout, Beat, Propose, Compact, Crash, Restart}
@@ -11,7 +11,7 @@ use Rattle.raft_model.specs.Worlds.{World, Event, Deliver, TimesOut, Beats, Prop
 use Rattle.raft_core.specs.Frames.{FrameCarries}
 use Rattle.raft_core.specs.RaftView.{RaftView}
 use Rattle.raft_core.specs.Inputs.{Handed, Bytes, Own}
-use Rattle.raft_core.specs.Refusals.{LackLeaves, LackStays}
+use Rattle.raft_core.specs.Refusals.{OutOfMemoryLeaves, OutOfMemoryStays}
 use Rattle.server.specs.SentBytes.{bytes_of}
 use Rattle.world.specs.Steps.{LeftServer}
 
@@ -25,11 +25,11 @@ is_restart (Crashes i) = false
 is_restart (Restarts i) = true
 
 -- server i takes the event
-abbrev pub ActsIn : {S C : Type 0} → Meaning S C → List Frame → Event C → ℕ → Type 0
+abbrev pub ActsIn : {S C : Type 0} → MachineSpec S C → List Frame → Event C → ℕ → Type 0
 ActsIn {C = C} m sent e i = (w : World C) → AllZip (FrameCarries m) sent w.sent → acting_server m w e ≡ Some i
 
 -- nobody takes it
-abbrev pub NobodyActsIn : {S C : Type 0} → Meaning S C → List Frame → Event C → Refusal → Type 0
+abbrev pub NobodyActsIn : {S C : Type 0} → MachineSpec S C → List Frame → Event C → Refusal → Type 0
 NobodyActsIn {C = C} m sent e r = (w : World C) → AllZip (FrameCarries m) sent w.sent → happens m w e ≡ Err r
 
 -- what it delivers was sent
@@ -54,14 +54,14 @@ handed_by sent (Restarts i) = Own Restart
 
 -- what a refusal leaves of a server: what a crash does where memory was wanting, else the same
 -- server
-abbrev pub Leaves : {S C : Type 0} → Meaning S C → RaftView S C → Raft C → Handed C → Refusal → RaftView S C
+abbrev pub Leaves : {S C : Type 0} → MachineSpec S C → RaftView S C → Raft C → Handed C → Refusal → RaftView S C
     → Type 0
-Leaves m old s h refusals.NoMemory new = LackLeaves m old s h new
+Leaves m old s h refusals.NoMemory new = OutOfMemoryLeaves m old s h new
 Leaves m old s h cause new = LeftServer old new
 
 -- and of the value itself, whichever servers it is
 abbrev pub StaysOrLeft : {S C : Type 0} → Handed C → Refusal → RaftView S C → RaftView S C → Type 0
-StaysOrLeft h refusals.NoMemory old new = LackStays h old new
+StaysOrLeft h refusals.NoMemory old new = OutOfMemoryStays h old new
 StaysOrLeft h cause old new = LeftServer old new
 
 -- what a server has committed, while it is up

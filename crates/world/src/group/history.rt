@@ -5,14 +5,16 @@ ghost use Rattle.group_model.specs.Servers.{Server as AnyServer};
 ghost use Rattle.group_model.specs.Worlds.{Deliver, AtServer, AtClient};
 ghost use Rattle.group_inputs.specs.Handings.{FrameBytes, handing};
 ghost use Rattle.server.specs.SentBytes.{bytes_of};
-ghost use Rattle.server.specs.ServerViews.{IsServer};
+ghost use Rattle.server.specs.ServerViews.{RefinesServer};
 ghost use Rattle.group_inputs.specs.declared.client_input.ClientInput.TheVariants as client_inputs;
 ghost use Rattle.group_inputs.specs.Events.{position_of, server_input, client_input, group_events};
 ghost use Rattle.world.specs.Inner.Inputs.{committed};
 ghost use Rattle.world.specs.Inner.GroupParts.{ServerDone, ClientDone};
 
 use crate::done::Done;
-use actor::{Stepped, bring_sent_to_server, bring_to_client, hand_client, hand_server, no_output};
+use actor::{
+    Stepped, deliver_sent_to_server, deliver_to_client, hand_client, hand_server, no_output,
+};
 use client_agent::Agent;
 use group_inputs::{ClientInput, Event, ServerInput};
 use rows::{ClientId, Index, NoMemory, Refusal, Sequence, ServerId, Work};
@@ -47,7 +49,7 @@ impl Model for GroupHistory {
 
 /// The greater of the chain so far and what a server has applied.
 fn longer(chain: Index, server: &Server) -> Index
-    ensures { (s : AnyServer) → IsServer server.now s → result ≡ max chain (committed s.raft) }
+    ensures { (s : AnyServer) → RefinesServer server.now s → result ≡ max chain (committed s.raft) }
 {
     match server.applied() {
         Some(applied) if applied.get() > chain.get() => applied,
@@ -223,7 +225,7 @@ impl GroupHistory {
     /// A frame that was sent comes to a server. Where that finds no memory, its crash is kept
     /// instead; where there is none to keep the event, nothing happens.
     #[inline(always)]
-    pub(crate) fn bring_to_server(
+    pub(crate) fn deliver_to_server(
         &mut self,
         server: &mut Server,
         me: ServerId,
@@ -238,7 +240,7 @@ impl GroupHistory {
         self.trace.reserve(1)?;
         make_server_spare(self.alloc, &mut self.server_spare)?;
         let at = place(&self.outbox.frames, k);
-        match bring_sent_to_server(server, at, &mut self.outbox) {
+        match deliver_sent_to_server(server, at, &mut self.outbox) {
             Ok(Stepped::Taken) => {
                 self.chain = longer(self.chain, server);
                 self.trace.push_reserved(Event::Deliver(k));
@@ -285,7 +287,7 @@ impl GroupHistory {
 
     /// A frame that was sent comes to a client. Where that finds no memory, its crash is kept
     /// instead; where there is none for the frame or to keep the event, nothing happens.
-    pub(crate) fn bring_to_client(
+    pub(crate) fn deliver_to_client(
         &mut self,
         client: &mut Agent,
         me: ClientId,
@@ -301,7 +303,7 @@ impl GroupHistory {
         let at = place(&self.outbox.frames, k);
         copy_frame(&self.outbox.frames, at, &mut self.delivered)?;
         make_client_spare(self.alloc, &mut self.client_spare)?;
-        match bring_to_client(client, &self.delivered, &mut self.outbox.frames) {
+        match deliver_to_client(client, &self.delivered, &mut self.outbox.frames) {
             Ok(Stepped::Taken) => {
                 self.trace.push_reserved(Event::Deliver(k));
                 Ok(Done::Taken)

@@ -13,11 +13,11 @@ fn request_ranges(request: &OperatorRequest)
     ensures { CommandFits (command_of request.now) }
 {
     match request {
-        OperatorRequest::PutJob(job) => job.ranges(),
-        OperatorRequest::StopJob(name) | OperatorRequest::PutEval(name) => {
+        OperatorRequest::JobPut(job) => job.ranges(),
+        OperatorRequest::JobStop(name) | OperatorRequest::EvalPut(name) => {
             let _name = name.as_bytes();
         }
-        OperatorRequest::DrainNode(node, _) => {
+        OperatorRequest::Drain(node, _) => {
             let _node = node.number();
         }
     }

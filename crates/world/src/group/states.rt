@@ -1,21 +1,21 @@
 //! What a caller knows of the replicated states of a group's servers.
 ghost use Rattle.std.specs.Prelude.{◌≡◌, ◌≢◌, ◌≤◌, ◌⊎◌, Some, None, List, IfSome, MatchOption};
 ghost use Rattle.std.specs.Option.{option_copied};
-ghost use Rattle.cluster_model.specs.SafeFacts.{Safe};
-ghost use Rattle.cluster_model.specs.ClusterMachine.{cluster_meaning};
+ghost use Rattle.fsm_model.specs.SafeFacts.{Safe};
+ghost use Rattle.fsm_model.specs.ClusterMachine.{cluster_spec};
 ghost use Rattle.group_model.specs.Worlds as worlds;
-ghost use Rattle.raft_core.specs.declared.ticket.Standing.TheVariants as standings;
+ghost use Rattle.raft_core.specs.declared.ticket.ProposalStatus.TheVariants as statuses;
 ghost use Rattle.world.specs.Claims.{OneHistory};
 ghost use Rattle.world.specs.GroupView.{GroupRunsTo};
 ghost use Rattle.world.specs.GroupClaims.{state_of};
 ghost use Rattle.world.specs.GroupShown.{OfTheLast, seen_state};
-ghost use Rattle.world.specs.Tickets.{standing_in};
-ghost use Rattle.world.specs.GroupTickets.{SettledInGroup};
+ghost use Rattle.world.specs.Tickets.{proposal_status_in};
+ghost use Rattle.world.specs.GroupTickets.{CommittedInGroup};
 
 use crate::group::world::World;
 use fsm_state::Cluster;
-use group_safety::{committed_is_settled, limits_are_kept};
-use raft_core::{Standing, Ticket};
+use group_safety::{commit_is_final, limits_are_kept};
+use raft_core::{ProposalStatus, Ticket};
 use rows::ServerId;
 
 impl World {
@@ -43,7 +43,7 @@ impl World {
             (λ pair. (state_of w one ≡ Some pair.0.now)
             × (state_of w other ≡ Some pair.1.now)) }
         ensures history { IfSome result (λ pair.
-            OneHistory cluster_meaning pair.0.now pair.1.now) }
+            OneHistory cluster_spec pair.0.now pair.1.now) }
     {
         self.one_list();
         Some((self.state(one)?, self.state(other)?))
@@ -53,27 +53,27 @@ impl World {
     /// in a leader's log (`Server::last`, `Server::term`). None where the group has no such server,
     /// or it is down.
     ///
-    /// - `Settled`: the one list has the command at that index for good, since no other command ever
+    /// - `Committed`: the one list has the command at that index for good, since no other command ever
     ///   stood there in that term.
-    /// - `Lost`: the one list has another entry there for good, of another term.
-    /// - `Covered`: the one list has an entry there for good, and the server has applied it. Its
+    /// - `Superseded`: the one list has another entry there for good, of another term.
+    /// - `Compacted`: the one list has an entry there for good, and the server has applied it. Its
     ///   snapshot covers it, so which one that is it does not know; another server may.
-    pub fn standing(&self, server: ServerId, ticket: Ticket) -> Option<Standing>
+    pub fn proposal_status(&self, server: ServerId, ticket: Ticket) -> Option<ProposalStatus>
         ensures value { (past : List worlds.World) (w : worlds.World) →
             GroupRunsTo self.now past w →
-            result ≡ standing_in (worlds.raft_of w) server ticket.index ticket.term }
-        ensures settled { result ≡ Some standings.Settled →
-            SettledInGroup self.now ticket.index (λ t. t ≡ ticket.term) }
-        ensures lost { result ≡ Some standings.Lost →
-            SettledInGroup self.now ticket.index (λ t. t ≢ ticket.term) }
-        ensures covered { result ≡ Some standings.Covered → 1 ≤ ticket.index →
-            SettledInGroup self.now ticket.index (λ t. Unit {0}) }
+            result ≡ proposal_status_in (worlds.raft_of w) server ticket.index ticket.term }
+        ensures settled { result ≡ Some statuses.Committed →
+            CommittedInGroup self.now ticket.index (λ t. t ≡ ticket.term) }
+        ensures lost { result ≡ Some statuses.Superseded →
+            CommittedInGroup self.now ticket.index (λ t. t ≢ ticket.term) }
+        ensures covered { result ≡ Some statuses.Compacted → 1 ≤ ticket.index →
+            CommittedInGroup self.now ticket.index (λ t. Unit {0}) }
     {
         self.one_list();
         // The nodes are within their limits, and so is what was proposed.
         let _ = self.clients();
         limits_are_kept();
-        committed_is_settled();
-        self.server(server)?.standing(ticket)
+        commit_is_final();
+        self.server(server)?.proposal_status(ticket)
     }
 }

@@ -13,7 +13,7 @@ ghost use Rattle.raft_progress.specs.Recovery.{HasRoom, everybody};
 ghost use Rattle.group_safety.specs.Limits.{NodesFit};
 ghost use Rattle.group_inputs.specs.Handings.{handing};
 ghost use Rattle.actor.specs.Handed.{comes_as_frame, is_client_frame};
-ghost use Rattle.server.specs.ServerViews.{ServerView, IsServer};
+ghost use Rattle.server.specs.ServerViews.{ServerView, RefinesServer};
 ghost use Rattle.rows.specs.GroupSizes.{IsGroup};
 ghost use Rattle.group_inputs.specs.Events.{position_of, server_input, client_input, group_event, group_events};
 ghost use Rattle.world.specs.GroupView.{GroupRunsTo, client_view, nodes_of, ServersKnowNumbers, ClientsKnowNumbers, IsSentTo};
@@ -57,20 +57,20 @@ pub struct World {
 }
 
 impl Model for World {
-    ghost use Rattle.world.specs.GroupView.{GroupView, IsGroupWorld};
+    ghost use Rattle.world.specs.GroupView.{GroupView, GroupInvariant};
 
     ghost Value = { GroupView };
 
     ghost view = { λ a. record { servers = a.servers.items; clients = a.clients.items; outbox = a.history.outbox; trace = a.history.trace; chain = a.history.chain } };
 
-    ghost invariant = { λ a. IsGroupWorld (record { servers = a.servers.items; clients = a.clients.items; outbox = a.history.outbox; trace = a.history.trace; chain = a.history.chain }) };
+    ghost invariant = { λ a. GroupInvariant (record { servers = a.servers.items; clients = a.clients.items; outbox = a.history.outbox; trace = a.history.trace; chain = a.history.chain }) };
 }
 
 /// The server at this place, before its first input.
 fn new_server(alloc: Global, position: usize, n: usize) -> Result<Server, NoMemory>
     requires { (IsGroup n) × (position < n) }
     ensures number { IfOk result (λ s. (s.raft.me ≡ position) × (s.raft.size ≡ n)) }
-    ensures server { IfOk result (λ s. IsServer s newcomer) }
+    ensures server { IfOk result (λ s. RefinesServer s newcomer) }
 {
     let Some(me) = ServerId::from_position(position) else {
         unreachable!()
@@ -85,11 +85,11 @@ fn new_server(alloc: Global, position: usize, n: usize) -> Result<Server, NoMemo
 }
 
 /// The client of the node at this place, before its first input. Its number is its place's.
-fn new_client(alloc: Global, place: usize, node: &NodeSpec, n: usize) -> Agent
-    requires { (IsGroup n) × (place < 64) }
-    ensures { result ≡ record { size = n; client = agent_of (record node.now { number = suc place }) } }
+fn new_client(alloc: Global, position: usize, node: &NodeSpec, n: usize) -> Agent
+    requires { (IsGroup n) × (position < 64) }
+    ensures { result ≡ record { size = n; client = agent_of (record node.now { number = suc position }) } }
 {
-    let Some(number) = NodeId::from_number(place as u8 + 1) else {
+    let Some(number) = NodeId::from_number(position as u8 + 1) else {
         unreachable!()
     };
     let node = NodeSpec {
@@ -110,11 +110,11 @@ fn new_servers(alloc: Global, n: usize) -> Result<Vec<Server>, NoMemory>
     ensures places { IfOk result (λ servers. (i : ℕ) (s : ServerView) →
         slice_get servers.items i ≡ Some s → (s.raft.me ≡ i) × (s.raft.size ≡ n)) }
     ensures newcomers { IfOk result (λ servers.
-        AllZip IsServer servers.items (replicate n newcomer)) }
+        AllZip RefinesServer servers.items (replicate n newcomer)) }
 {
     let mut servers = Vec::new(alloc);
-    for place in 0..n {
-        servers.push(new_server(alloc, place, n)?)?;
+    for position in 0..n {
+        servers.push(new_server(alloc, position, n)?)?;
     }
     Ok(servers)
 }
@@ -126,8 +126,8 @@ fn new_clients(alloc: Global, nodes: &[NodeSpec], n: usize) -> Result<Vec<Agent>
     ensures { IfOk result (λ clients. clients.items ≡ new_agents n 1 nodes.now) }
 {
     let mut clients = Vec::new(alloc);
-    for place in 0..nodes.len() {
-        clients.push(new_client(alloc, place, &nodes[place], n))?;
+    for position in 0..nodes.len() {
+        clients.push(new_client(alloc, position, &nodes[position], n))?;
     }
     Ok(clients)
 }
@@ -139,7 +139,7 @@ fn position_of_client(client: ClientId) -> usize
     usize::from(client.number() - 1)
 }
 
-fn lacks_memory(done: &Result<Done, Refusal>) -> bool
+fn is_out_of_memory(done: &Result<Done, Refusal>) -> bool
     ensures { MatchBool result (done.now ≡ Err refusals.NoMemory)
         (done.now ≢ Err refusals.NoMemory) }
 {
@@ -167,7 +167,7 @@ impl World {
 
     /// A frame that was sent comes to a server.
     #[inline(always)]
-    fn bring_to_server(&mut self, me: ServerId, k: u64) -> Result<Done, Refusal>
+    fn deliver_to_server(&mut self, me: ServerId, k: u64) -> Result<Done, Refusal>
         requires member { me < length self.old.servers }
         requires sent { IsSentTo self.old.outbox.frames (position_of k) (actors.Server me) }
         requires awake { IsGroupAwake self.old (Deliver (position_of k)) }
@@ -178,7 +178,7 @@ impl World {
         limits_are_kept();
         senders_are_members();
         let server = &mut self.servers[me.position()];
-        self.history.bring_to_server(server, me, k)
+        self.history.deliver_to_server(server, me, k)
     }
 
     /// A client takes an input of its own.
@@ -195,7 +195,7 @@ impl World {
     }
 
     /// A frame that was sent comes to a client.
-    fn bring_to_client(&mut self, me: ClientId, k: u64) -> Result<Done, Refusal>
+    fn deliver_to_client(&mut self, me: ClientId, k: u64) -> Result<Done, Refusal>
         requires member { me ≤ length self.old.clients }
         requires sent { IsSentTo self.old.outbox.frames (position_of k) (actors.Client me) }
         requires awake { IsGroupAwake self.old (Deliver (position_of k)) }
@@ -206,7 +206,7 @@ impl World {
         limits_are_kept();
         senders_are_members();
         let client = &mut self.clients[position_of_client(me)];
-        self.history.bring_to_client(client, me, k)
+        self.history.deliver_to_client(client, me, k)
     }
 
     /// An input of a server's own.
@@ -255,7 +255,7 @@ impl World {
         if server.role().is_none() {
             return Err(Refusal::Down);
         }
-        self.bring_to_server(me, k)
+        self.deliver_to_server(me, k)
     }
 
     /// A frame that was sent to a client comes.
@@ -269,7 +269,7 @@ impl World {
         if !client.is_up() {
             return Err(Refusal::Down);
         }
-        self.bring_to_client(me, k)
+        self.deliver_to_client(me, k)
     }
 
     /// A message that was sent comes to its receiver.
@@ -288,7 +288,7 @@ impl World {
 
     /// An event happens, if its actor is there and up.
     #[inline(always)]
-    fn take(&mut self, event: Event) -> Result<Done, Refusal>
+    fn happen(&mut self, event: Event) -> Result<Done, Refusal>
         ensures { GroupStepped self.old (group_event event) result self.new }
     {
         match event {
@@ -330,8 +330,8 @@ impl World {
             ShownAfter result self.new shown }
         ensures size { IsGroup (length self.new.servers) }
     {
-        let done = self.take(event);
-        self.group_size();
+        let done = self.happen(event);
+        self.size_is_3_or_5();
         self.one_list();
         self.safe_states();
         self.plans_backed();
@@ -401,11 +401,11 @@ impl World {
         let mut world = Self::new(alloc, n, nodes)?;
         for event in events {
             let done = world.step(event.try_clone(alloc)?);
-            if lacks_memory(&done) {
+            if is_out_of_memory(&done) {
                 return Err(Refusal::NoMemory);
             }
         }
-        world.group_size();
+        world.size_is_3_or_5();
         world.one_list();
         world.safe_states();
         world.plans_backed();
@@ -417,7 +417,7 @@ impl World {
     }
 
     /// A group has 3 or 5 servers.
-    pub fn group_size(&self)
+    pub fn size_is_3_or_5(&self)
         ensures { IsGroup (length self.now.servers) }
     {
         // The type's own promise is known where a field is looked at.
@@ -594,7 +594,7 @@ impl World {
         ensures group { IsGroup result }
         ensures places { ServersKnowNumbers self.now }
     {
-        self.group_size();
+        self.size_is_3_or_5();
         self.servers.len()
     }
 

@@ -2,7 +2,7 @@ use Rattle.std.proofs.Common.{[], ◌∷◌, ◌++◌, Bool, T, refl, subst, ap,
 use Rattle.rows.specs.declared.evaluation.Evaluation.{Evaluation}
 use Rattle.rows.specs.Keys.{eval_cmp, eval_id}
 use Rattle.rows.specs.Rising.{is_rising}
-use Rattle.cluster_model.specs.Words.{is_blocked}
+use Rattle.fsm_model.specs.Words.{is_blocked}
 use Rattle.fsm_tables.specs.Runs.{rows_left}
 use Rattle.group_model.specs.Blocked.{blocked_id, blocked_eval}
 use Rattle.group_model.proofs.KeptRows.{rising_kept}

@@ -1,7 +1,7 @@
 use Rattle.std.proofs.Common.{◌≡◌, ◌++◌, true}
 use Rattle.std.specs.List.{list_any}
 use Rattle.rows.specs.declared.evaluation.Evaluation.{Evaluation}
-use Rattle.cluster_model.specs.Words.{is_blocked}
+use Rattle.fsm_model.specs.Words.{is_blocked}
 use Rattle.fsm_tables.specs.Runs.{rows_left}
 use Rattle.blocked.proofs.RowByRow.{held_of}
 use Rattle.blocked.proofs.rebuild.evals_of.Given as goal

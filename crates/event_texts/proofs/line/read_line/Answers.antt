@@ -13,7 +13,7 @@ returns-in_default-clause-read c event is =
     absurd (c.in_default.ensures.first _ _ parts.0 (is.1 ∙ parts.1))
 
 pub returns-in_default-verb-clause-named : goal.returns-in_default-verb-clause-named
-returns-in_default-verb-clause-named c = go c.read_small.result c.read_small.ensures.named
+returns-in_default-verb-clause-named c = go c.read_small_line.result c.read_small_line.ensures.named
   where
     go : (r : Option Line) → IfSome r (λ said. IsSmall (line_event said) × HasParts (line_event said) c.in-Some.verb.now c.in-Some.words.now)
         → IfSome r (λ said. IsEventLine (line_event said) c.args.line.now)
@@ -26,7 +26,7 @@ returns-in_default-verb-clause-read c event is =
     let parts = parted event is.0 in
     let first = c.in-Some.ensures.first _ _ parts.0 (is.1 ∙ parts.1) in
     let small = is_small event (λ e. c.in_default-verb.not-request (first.0 ∙ e)) (λ e. c.in_default-verb.not-submit (first.0 ∙ e)) in
-    c.read_small.ensures.read event small (record { fits = is.0; first = first.0; behind = first.1 })
+    c.read_small_line.ensures.read event small (record { fits = is.0; first = first.0; behind = first.1 })
 
 pub returns-in-request-clause-memory : goal.returns-in-request-clause-memory
 returns-in-request-clause-memory c = on_err_weaker c.read_request_line.result takes c.read_request_line.ensures.memory

@@ -2,7 +2,7 @@ use Rattle.std.proofs.Common.{◌≡◌, ◌∙◌, ◌++◌, ◌∷◌, ℕ, Li
 use Rattle.rows.specs.Fits.{NodeIdFits}
 use Rattle.rows.specs.Names.{NameFits}
 use Rattle.rows.specs.declared.request.OperatorRequest.{OperatorRequest}
-use Rattle.rows.specs.declared.request.OperatorRequest.TheVariants.{DrainNode, PutEval, PutJob, StopJob}
+use Rattle.rows.specs.declared.request.OperatorRequest.TheVariants.{Drain, EvalPut, JobPut, JobStop}
 use Rattle.event_texts.specs.Requests.{RequestFits, drain_text, request_text}
 use Rattle.event_texts.specs.Inner.Plain.{IsWithout}
 use Rattle.event_texts.specs.Laws.PlainTexts.{name_lacks}
@@ -10,28 +10,28 @@ use Rattle.event_texts.proofs.request.read_request.Goals as goal
 
 -- each request's text is a verb, a space, and what stands behind it
 verb_of : (r : OperatorRequest) → (verb : List ℕ) × (words : List ℕ) × IsWithout 32 verb × (request_text r ≡ verb ++ 32 ∷ words)
-verb_of (PutJob job) = (codes "put", _, name_lacks 32 (codes "put") refl refl, refl)
-verb_of (StopJob name) = (codes "stop", _, name_lacks 32 (codes "stop") refl refl, refl)
-verb_of (PutEval name) = (codes "eval", _, name_lacks 32 (codes "eval") refl refl, refl)
-verb_of (DrainNode node force) = (codes "drain", _, name_lacks 32 (codes "drain") refl refl, refl)
+verb_of (JobPut job) = (codes "put", _, name_lacks 32 (codes "put") refl refl, refl)
+verb_of (JobStop name) = (codes "stop", _, name_lacks 32 (codes "stop") refl refl, refl)
+verb_of (EvalPut name) = (codes "eval", _, name_lacks 32 (codes "eval") refl refl, refl)
+verb_of (Drain node force) = (codes "drain", _, name_lacks 32 (codes "drain") refl refl, refl)
 
 -- a request other than `put` is the one that is read
 small : (r : OperatorRequest) (verb words : List ℕ) (read : Option OperatorRequest) → RequestFits r
     → ((front back : List ℕ) → IsWithout 32 front → request_text r ≡ front ++ 32 ∷ back → (verb ≡ front) × (words ≡ back))
     → (verb ≡ codes "put" → ⊥)
-    → ((name : List ℕ) → NameFits name → verb ≡ codes "stop" → words ≡ name → read ≡ Some (StopJob name))
-    → ((name : List ℕ) → NameFits name → verb ≡ codes "eval" → words ≡ name → read ≡ Some (PutEval name))
-    → ((node : ℕ) (force : Bool) → NodeIdFits node → verb ≡ codes "drain" → words ≡ drain_text node force → read ≡ Some (DrainNode node force))
+    → ((name : List ℕ) → NameFits name → verb ≡ codes "stop" → words ≡ name → read ≡ Some (JobStop name))
+    → ((name : List ℕ) → NameFits name → verb ≡ codes "eval" → words ≡ name → read ≡ Some (EvalPut name))
+    → ((node : ℕ) (force : Bool) → NodeIdFits node → verb ≡ codes "drain" → words ≡ drain_text node force → read ≡ Some (Drain node force))
     → read ≡ Some r
-small (PutJob job) verb words read fits first not_put stop eval drain =
+small (JobPut job) verb words read fits first not_put stop eval drain =
     absurd (not_put (first (codes "put") _ (name_lacks 32 (codes "put") refl refl) refl).0)
-small (StopJob name) verb words read fits first not_put stop eval drain =
+small (JobStop name) verb words read fits first not_put stop eval drain =
     let is = first (codes "stop") name (name_lacks 32 (codes "stop") refl refl) refl in
     stop name fits is.0 is.1
-small (PutEval name) verb words read fits first not_put stop eval drain =
+small (EvalPut name) verb words read fits first not_put stop eval drain =
     let is = first (codes "eval") name (name_lacks 32 (codes "eval") refl refl) refl in
     eval name fits is.0 is.1
-small (DrainNode node force) verb words read fits first not_put stop eval drain =
+small (Drain node force) verb words read fits first not_put stop eval drain =
     let is = first (codes "drain") _ (name_lacks 32 (codes "drain") refl refl) refl in
     drain node force fits is.0 is.1
 

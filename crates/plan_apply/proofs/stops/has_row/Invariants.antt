@@ -1,7 +1,7 @@
 use Rattle.std.proofs.Common.{◌≡◌, drop, map}
 use Rattle.std.specs.List.{list_any}
 use Rattle.rows.specs.Keys.{alloc_id}
-use Rattle.cluster_model.specs.Words.{same_alloc}
+use Rattle.fsm_model.specs.Words.{same_alloc}
 use Rattle.plan_apply.proofs.stops.has_row.Given as goal
 
 abbrev pub invariant-loop-row : goal.invariant-loop-row

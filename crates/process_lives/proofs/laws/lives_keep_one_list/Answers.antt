@@ -5,4 +5,4 @@ use Rattle.process_lives.proofs.laws.lives_keep_one_list.Goals as goal
 pub returns : goal.returns
 returns g c = λ n past now lived.
     let p = g.P.ServerProcess in
-    lives_keep_one_list g.M.Machine.meaning n (server_code p.replay p.turn (p.begins_with n) (p.header n) p.is_frame) g.met.M.Machine.lawful (g.met.P.ServerProcess.runs n) past now lived
+    lives_keep_one_list g.M.Machine.spec n (server_code p.replay p.turn (p.begins_with n) (p.header n) p.is_frame) g.met.M.Machine.lawful (g.met.P.ServerProcess.runs n) past now lived

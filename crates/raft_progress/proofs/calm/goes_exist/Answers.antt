@@ -2,4 +2,4 @@ use Rattle.raft_progress.proofs.Existing as existing
 use Rattle.raft_progress.proofs.calm.goes_exist.Goals as goal
 
 pub returns : goal.returns
-returns g c = λ n events past w r two Q quorum up i less member best. existing.go_exists g.M.Machine.meaning g.met.M.Machine.lawful n events past w r two Q quorum up i less member best
+returns g c = λ n events past w r two Q quorum up i less member best. existing.go_exists g.M.Machine.spec g.met.M.Machine.lawful n events past w r two Q quorum up i less member best

@@ -2,7 +2,7 @@ use Rattle.raft_safety.proofs.Chains.{st, chain, chain_one, chain_length, chain_
 use Rattle.raft_safety.proofs.entries.one_list.Goals as goal
 
 pub returns : goal.returns
-returns g c = let m = g.M.Machine.meaning in let law = g.met.M.Machine.lawful in record {
+returns g c = let m = g.M.Machine.spec in let law = g.met.M.Machine.lawful in record {
   exists = λ n events past w r. let s = st m law n events past w r in (s.list, chain m law n events past w r);
   alone = chain_one;
   long = chain_length;

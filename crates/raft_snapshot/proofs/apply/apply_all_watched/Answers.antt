@@ -5,20 +5,20 @@ use Rattle.raft_snapshot.proofs.apply.apply_all_watched.Goals as goal
 
 pub loop-entry-init : goal.loop-entry-init
 loop-entry-init g c =
-    let m = g.M.Machine.meaning in
+    let m = g.M.Machine.spec in
     let a = c.args in
     record { within = omega arith; state = from-none m a.machine.now a.entries.now; seen = seen-none m g.W.Watch.sees a.term a.machine.now a.entries.now a.watch.now }
 
 pub apply_watched-requires : goal.apply_watched-requires
 apply_watched-requires g c =
-    let m = g.M.Machine.meaning in
+    let m = g.M.Machine.spec in
     let done = c.loop-entry.invariant in
     let counted = from-count m g.met.M.Machine.lawful c.args.machine.now c.args.entries.now c.loop-entry.entry-index c.loop-entry.machine done.within done.state in
     omega (arith, counted, c.requires, c.loop-entry-test.true)
 
 pub loop-entry-preserved : goal.loop-entry-preserved
 loop-entry-preserved g c =
-    let m = g.M.Machine.meaning in
+    let m = g.M.Machine.spec in
     let a = c.args in
     let at = c.loop-entry in
     let old = at.invariant in

@@ -7,6 +7,6 @@ use Rattle.raft_snapshot.proofs.apply.apply_all_watched.Given as goal
 abbrev pub invariant-loop-entry : goal.invariant-loop-entry
 invariant-loop-entry g l = record {
   within : l.entry-index ≤ length l.entries;
-  state : l.machine ≡ after_from g.M.Machine.meaning l.initial.machine (commands (take l.entry-index l.entries));
-  seen : SeesAll g.M.Machine.meaning g.W.Watch.sees l.term l.initial.machine (take l.entry-index l.entries) l.initial.watch l.watch;
+  state : l.machine ≡ after_from g.M.Machine.spec l.initial.machine (commands (take l.entry-index l.entries));
+  seen : SeesAll g.M.Machine.spec g.W.Watch.sees l.term l.initial.machine (take l.entry-index l.entries) l.initial.watch l.watch;
 }

@@ -3,7 +3,7 @@ use Rattle.raft_snapshot.proofs.laws.stable_texts_are_whole.Goals as goal
 
 pub returns : goal.returns
 returns g c =
-    let m = g.M.Machine.meaning in
+    let m = g.M.Machine.spec in
     let law = g.met.M.Machine.lawful in
     record {
       lawful = λ version. stable_lawful m version (law.commands_lawful version) (law.states_lawful version);

@@ -6,4 +6,4 @@ pub returns-clause-merged : goal.returns-clause-merged
 returns-clause-merged g c = λ commit prev log entries reaches within. tells_merge commit prev log entries reaches within
 
 pub returns-clause-steps : goal.returns-clause-steps
-returns-clause-steps g c = λ n me s reaches within input turn e stays. step_tells g.M.Machine.meaning n me s reaches within input turn e stays
+returns-clause-steps g c = λ n me s reaches within input turn e stays. step_tells g.M.Machine.spec n me s reaches within input turn e stays

@@ -7,12 +7,12 @@ use Rattle.raft_snapshot.proofs.merge.splice.Goals.{then-risen-keep+in_ok-apply_
 pub apply_all-requires : goal.apply_all-requires
 apply_all-requires g c =
     let log = c.args.log.now in
-    let counted = count_of g.M.Machine.meaning g.met.M.Machine.lawful log.base log.entries c.args.keep c.apply_range-else-risen-keep.new.machine c.covered-covered.ensures.keeps.count (omega arith) c.requires.cut c.in_ok-apply_range-2.ensures in
+    let counted = count_of g.M.Machine.spec g.met.M.Machine.lawful log.base log.entries c.args.keep c.apply_range-else-risen-keep.new.machine c.covered-covered.ensures.keeps.count (omega arith) c.requires.cut c.in_ok-apply_range-2.ensures in
     omega (arith, counted, length-take (c.args.risen - c.args.keep) c.deref.result.now)
 
 pub returns-clause-state : goal.returns-clause-state
 returns-clause-state g c =
-    let m = g.M.Machine.meaning in
+    let m = g.M.Machine.spec in
     let base = c.args.log.now.base in
     let es = c.args.log.now.entries in
     elim c.if-risen-keep.branch [

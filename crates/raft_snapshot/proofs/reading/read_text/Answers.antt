@@ -6,14 +6,14 @@ use Rattle.raft_snapshot.proofs.reading.read_text.Goals as goal
 
 pub rest_of-text-requires : goal.rest_of-text-requires
 rest_of-text-requires g c =
-    let m = g.M.Machine.meaning in
+    let m = g.M.Machine.spec in
     let law = g.met.M.Machine.lawful in
     let is : ReadsFront m c.args.bytes.now c.in_ok-front.front c.in_ok-front.at = record { version = _; version_read = c.in_ok-version.ensures; front_read = c.in_ok-front.ensures; fits = λ i. omega (arith, c.type_inv.bytes i) } in
     within m law c.args.bytes.now c.in_ok-front.front c.in_ok-front.at is
 
 pub returns-in_err-state : goal.returns-in_err-state
 returns-in_err-state g c =
-    let m = g.M.Machine.meaning in
+    let m = g.M.Machine.spec in
     let law = g.met.M.Machine.lawful in
     let is : ReadsFront m c.args.bytes.now c.in_ok-front.front c.in_ok-front.at = record { version = _; version_read = c.in_ok-version.ensures; front_read = c.in_ok-front.ensures; fits = λ i. omega (arith, c.type_inv.bytes i) } in
     let p = err_from_is_err_and c.from_residual-in_err-state.result c.from_residual-in_err-state.ensures.1 in
@@ -21,7 +21,7 @@ returns-in_err-state g c =
 
 pub returns-then-not-branch : goal.returns-then-not-branch
 returns-then-not-branch g c =
-    let m = g.M.Machine.meaning in
+    let m = g.M.Machine.spec in
     let law = g.met.M.Machine.lawful in
     let is : ReadsFront m c.args.bytes.now c.in_ok-front.front c.in_ok-front.at = record { version = _; version_read = c.in_ok-version.ensures; front_read = c.in_ok-front.ensures; fits = λ i. omega (arith, c.type_inv.bytes i) } in
     let read = rw c.rest_of-text.ensures.value at c.in_ok-state.ensures in
@@ -30,7 +30,7 @@ returns-then-not-branch g c =
 
 pub stable_of-requires : goal.stable_of-requires
 stable_of-requires g c =
-    let m = g.M.Machine.meaning in
+    let m = g.M.Machine.spec in
     let law = g.met.M.Machine.lawful in
     let is : ReadsFront m c.args.bytes.now c.in_ok-front.front c.in_ok-front.at = record { version = _; version_read = c.in_ok-version.ensures; front_read = c.in_ok-front.ensures; fits = λ i. omega (arith, c.type_inv.bytes i) } in
     let read = rw c.rest_of-text.ensures.value at c.in_ok-state.ensures in
@@ -39,7 +39,7 @@ stable_of-requires g c =
 
 pub returns : goal.returns
 returns g c =
-    let m = g.M.Machine.meaning in
+    let m = g.M.Machine.spec in
     let law = g.met.M.Machine.lawful in
     let is : ReadsFront m c.args.bytes.now c.in_ok-front.front c.in_ok-front.at = record { version = _; version_read = c.in_ok-version.ensures; front_read = c.in_ok-front.ensures; fits = λ i. omega (arith, c.type_inv.bytes i) } in
     let read = rw c.rest_of-text.ensures.value at c.in_ok-state.ensures in

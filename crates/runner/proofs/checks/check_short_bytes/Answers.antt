@@ -1,6 +1,6 @@
 use Rattle.std.proofs.Common.{subst}
 use Rattle.std.proofs.lemmas.Result.{IfOk-weaker}
-use Rattle.expansion.specs.Checked.{IsGoodShortText}
+use Rattle.sim_expand.specs.Checked.{IsGoodShortText}
 use Rattle.runner.proofs.checks.check_short_bytes.Goals as goal
 
 pub returns-in-Ok-clause-ok : goal.returns-in-Ok-clause-ok

@@ -2,7 +2,7 @@ use Rattle.std.proofs.Common.{refl}
 use Rattle.std.proofs.lemmas.List.{length-map}
 use Rattle.group_inputs.specs.Events.{group_event}
 use Rattle.event_texts.specs.Transcripts.{IsTranscript, recorded}
-use Rattle.file_runs.proofs.Files.{of_file}
+use Rattle.sim_files.proofs.Files.{of_file}
 use Rattle.runner.proofs.drawing.draw_file.Goals as goal
 
 pub returns-clause-told : goal.returns-clause-told

@@ -1,5 +1,5 @@
 use Rattle.std.proofs.Common.{◌≡◌, Err, inl, inr, map, rules, string_bytes}
-use Rattle.playing.specs.PlaySteps.{StepRefused, StepTaken}
+use Rattle.sim_play.specs.PlaySteps.{StepRefused, StepTaken}
 use Rattle.runner.specs.Expansions.{TakesLines}
 use Rattle.runner.proofs.Expansions.{played_steps}
 use Rattle.runner.proofs.expanding.expanded_text.Goals as goal

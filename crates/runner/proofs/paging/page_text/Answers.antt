@@ -1,5 +1,5 @@
 use Rattle.std.proofs.Common.{length, subst, sym}
-use Rattle.picture.specs.Pictures.{IsRunPicture}
+use Rattle.sim_draw.specs.Pictures.{IsRunPicture}
 use Rattle.runner.specs.Pages.{IsMoments}
 use Rattle.runner.proofs.paging.page_text.Goals as goal
 

@@ -1,6 +1,6 @@
 use Rattle.std.proofs.Common.{refl}
 use Rattle.event_texts.specs.Transcripts.{IsTranscript, recorded}
-use Rattle.file_runs.proofs.Files.{of_file}
+use Rattle.sim_files.proofs.Files.{of_file}
 use Rattle.runner.proofs.seeing.tell_file.Goals as goal
 
 pub returns-clause-told : goal.returns-clause-told

@@ -1,7 +1,7 @@
 use Rattle.std.proofs.Common.{◌≡◌, ◌∙◌, subst}
 use Rattle.cells.specs.Actors.{group_size}
 use Rattle.cells.proofs.Members.{size_is}
-use Rattle.scenario_file.specs.Objects.{step_lines}
+use Rattle.sim_scenario.specs.Objects.{step_lines}
 use Rattle.runner.specs.Inner.Closed.{TellsLinesOn}
 use Rattle.runner.proofs.threads.run_threads.Goals as goal
 

@@ -7,15 +7,15 @@ use Rattle.wire.proofs.reading.read_message.Goals as goal
 
 pub returns-clause-found : goal.returns-clause-found
 returns-clause-found g c =
-    let meaning = g.M.Machine.meaning in
+    let spec = g.M.Machine.spec in
     let law = g.met.M.Machine.lawful in
-    found_of meaning law c.args.bytes.now c.read_frame.result (λ i. omega (arith, c.type_inv.bytes i)) (gives_of _ c.read_frame.result _ c.read_frame.ensures)
+    found_of spec law c.args.bytes.now c.read_frame.result (λ i. omega (arith, c.type_inv.bytes i)) (gives_of _ c.read_frame.result _ c.read_frame.ensures)
 
 pub returns-clause-only : goal.returns-clause-only
 returns-clause-only g c =
-    let meaning = g.M.Machine.meaning in
+    let spec = g.M.Machine.spec in
     let law = g.met.M.Machine.lawful in
-    λ m fits e. subst (λ f. Gives c.read_frame.result f) (ap (message_at meaning) e ∙ message_only meaning law m fits) (gives_of _ c.read_frame.result _ c.read_frame.ensures)
+    λ m fits e. subst (λ f. Gives c.read_frame.result f) (ap (message_at spec) e ∙ message_only spec law m fits) (gives_of _ c.read_frame.result _ c.read_frame.ensures)
 
 pub returns-clause-exact : goal.returns-clause-exact
 returns-clause-exact g c = gives_of _ c.read_frame.result _ c.read_frame.ensures
@@ -25,6 +25,6 @@ returns-clause-memory g c = reason_of _ c.read_frame.result _ c.read_frame.ensur
 
 pub returns-clause-log : goal.returns-clause-log
 returns-clause-log g c =
-    let meaning = g.M.Machine.meaning in
+    let spec = g.M.Machine.spec in
     let law = g.met.M.Machine.lawful in
-    named_of meaning law c.args.bytes.now c.read_frame.result (λ i. omega (arith, c.type_inv.bytes i)) (gives_of _ c.read_frame.result _ c.read_frame.ensures)
+    named_of spec law c.args.bytes.now c.read_frame.result (λ i. omega (arith, c.type_inv.bytes i)) (gives_of _ c.read_frame.result _ c.read_frame.ensures)

@@ -21,10 +21,10 @@ returns-in_err-append_said g c = record {
 
 pub put_size-requires : goal.put_size-requires
 put_size-requires g c =
-    let meaning = g.M.Machine.meaning in
+    let spec = g.M.Machine.spec in
     let law = g.met.M.Machine.lawful in
     let behind : Behind _ _ _ _ _ _ = record { place = c.len-size_at.ensures ∙ c.args.out.now.ok.0; four_are = refl; four_came = c.in_ok-extend_from_slice.ensures.items; text_came = c.in_ok-append_said.ensures.value.1 } in
-    record { room = four_inside behind; short = length_fits behind (body_within meaning law (said_body c.args.said.now) c.in_ok-append_said.ensures.value.0) }
+    record { room = four_inside behind; short = length_fits behind (body_within spec law (said_body c.args.said.now) c.in_ok-append_said.ensures.value.0) }
 
 pub returns : goal.returns
 returns g c =

@@ -4,4 +4,4 @@ use Rattle.raft_snapshot.proofs.Whole.{empty_whole}
 use Rattle.world.proofs.world.newcomer.Goals as goal
 
 pub returns-in-Ok-clause-server : goal.returns-in-Ok-clause-server
-returns-in-Ok-clause-server g c = c.in-Ok.ensures.server newcomer (rw c.new.ensures (record { term = refl; vote = refl; log = empty_whole g.M.Machine.meaning _ _ refl refl; covered = refl }))
+returns-in-Ok-clause-server g c = c.in-Ok.ensures.server newcomer (rw c.new.ensures (record { term = refl; vote = refl; log = empty_whole g.M.Machine.spec _ _ refl refl; covered = refl }))

@@ -1,6 +1,6 @@
 use Rattle.std.proofs.Common.{List, filter, map, not, ap, sym, ◌∙◌}
 use Rattle.fsm_tables.specs.declared.urgency.Urgency.{Urgency}
-use Rattle.cluster_model.proofs.Lists.{filter_both}
+use Rattle.fsm_model.proofs.Lists.{filter_both}
 use Rattle.group_model.specs.Order.{in_order}
 use Rattle.group_model.specs.Blocked.{BlockedEval, blocked_id, is_due_by, room_with, made_due}
 use Rattle.blocked.specs.Rooms.{BlockedRows, room_in, blocked_of}

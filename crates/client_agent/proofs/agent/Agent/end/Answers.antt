@@ -1,5 +1,5 @@
 use Rattle.std.proofs.Common.{not, Some, sym, ap, subst, ◌∙◌}
-use Rattle.cluster_model.specs.Words.{same_alloc}
+use Rattle.fsm_model.specs.Words.{same_alloc}
 use Rattle.group_model.specs.Agents.{Life, Running}
 use Rattle.group_inputs.specs.declared.client_input.ClientInput.TheVariants as inputs
 use Rattle.client_agent.specs.AgentView.{AgentView}

@@ -1,5 +1,5 @@
 use Rattle.std.proofs.Common.{not, ◌&&◌, List, ap, ◌∙◌}
-use Rattle.cluster_model.specs.Words.{same_alloc}
+use Rattle.fsm_model.specs.Words.{same_alloc}
 use Rattle.client_agent.specs.declared.ids.IdRow.{IdRow}
 use Rattle.client_agent.specs.Inner.Ids.{lists_id}
 use Rattle.client_agent.proofs.Indexes.{one_less}

@@ -1,7 +1,7 @@
 use Rattle.std.proofs.Common.{◌≡◌, ◌++◌, [], ◌∷◌, List, sym, ap, subst, ◌∙◌}
 use Rattle.std.specs.List.{list_any}
 use Rattle.rows.specs.declared.allocation.AllocId.{AllocId}
-use Rattle.cluster_model.specs.Words.{same_alloc}
+use Rattle.fsm_model.specs.Words.{same_alloc}
 use Rattle.client_agent.specs.Capacity.{AreDistinct}
 use Rattle.client_agent.specs.Inner.Ids.{AreSet}
 use Rattle.client_agent.proofs.Distinct.{distinct_push}

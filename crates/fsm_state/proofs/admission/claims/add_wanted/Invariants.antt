@@ -1,5 +1,5 @@
 use Rattle.std.proofs.Common.{◌≡◌, ◌++◌, drop, map}
-use Rattle.cluster_model.specs.Plans.{place_claim}
+use Rattle.fsm_model.specs.Plans.{place_claim}
 use Rattle.fsm_state.proofs.admission.claims.add_wanted.Given as goal
 
 abbrev pub invariant-loop-place : goal.invariant-loop-place

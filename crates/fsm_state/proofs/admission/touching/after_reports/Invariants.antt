@@ -1,5 +1,5 @@
 use Rattle.std.proofs.Common.{◌≡◌, drop}
-use Rattle.cluster_model.specs.Effect.{told_all}
+use Rattle.fsm_model.specs.Effect.{told_all}
 use Rattle.fsm_state.proofs.admission.touching.after_reports.Given as goal
 
 abbrev pub invariant-loop-report : goal.invariant-loop-report

@@ -1,5 +1,5 @@
 use Rattle.std.proofs.Common.{◌≡◌, drop}
-use Rattle.cluster_model.specs.Plans.{are_free}
+use Rattle.fsm_model.specs.Plans.{are_free}
 use Rattle.fsm_state.proofs.admission.whole.are_free.Given as goal
 
 abbrev pub invariant-loop-claim : goal.invariant-loop-claim

@@ -1,7 +1,7 @@
 use Rattle.std.proofs.Common.{◌≡◌, Option, sym, ap, subst}
 use Rattle.std.specs.Prelude.{IfOk}
 use Rattle.rows.specs.declared.refusal.Refusal.{Refusal}
-use Rattle.cluster_model.specs.Admission.{admission}
+use Rattle.fsm_model.specs.Admission.{admission}
 use Rattle.fsm_state.proofs.cluster.Cluster.admission.Goals as goal
 
 pub returns-in-Report-clause-ok : goal.returns-in-Report-clause-ok

@@ -1,5 +1,5 @@
 use Rattle.std.proofs.Common.{T, take, subst, sym, ◌∙◌}
-use Rattle.cluster_model.specs.Safe.{are_distinct}
+use Rattle.fsm_model.specs.Safe.{are_distinct}
 use Rattle.fsm_state.proofs.Claimed.{front_yes, front_no}
 use Rattle.fsm_state.proofs.cluster.Cluster.are_held_once.Goals as goal
 

@@ -1,6 +1,6 @@
 use Rattle.std.proofs.Common.{◌≡◌, drop}
 use Rattle.std.specs.List.{list_all}
-use Rattle.cluster_model.specs.Admission.{is_live_of}
+use Rattle.fsm_model.specs.Admission.{is_live_of}
 use Rattle.fsm_state.proofs.cluster.Cluster.are_live_of.Given as goal
 
 abbrev pub invariant-loop-id : goal.invariant-loop-id

@@ -1,8 +1,8 @@
 use Rattle.std.proofs.Common.{◌≡◌, ◌++◌, T, List, length, take, sym, ap, subst, ◌∙◌}
 use Rattle.std.proofs.Math.Seq.{take-append_seam}
 use Rattle.fsm_tables.specs.Claims.{Claim}
-use Rattle.cluster_model.specs.Safe.{are_safe, are_distinct}
-use Rattle.cluster_model.specs.Plans.{wanted, left_by}
+use Rattle.fsm_model.specs.Safe.{are_safe, are_distinct}
+use Rattle.fsm_model.specs.Plans.{wanted, left_by}
 use Rattle.fsm_state.proofs.Claimed.{bears_is_safe, left_is_distinct}
 use Rattle.fsm_state.proofs.cluster.Cluster.bears_all.Goals as goal
 

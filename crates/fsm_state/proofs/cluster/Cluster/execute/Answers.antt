@@ -1,5 +1,5 @@
 use Rattle.std.proofs.Common.{sym, ap, ◌∙◌}
-use Rattle.cluster_model.specs.Effect.{applied, reported}
+use Rattle.fsm_model.specs.Effect.{applied, reported}
 use Rattle.fsm_state.proofs.Retold.{retold}
 use Rattle.fsm_state.proofs.cluster.Cluster.execute.Goals as goal
 

@@ -1,6 +1,6 @@
 use Rattle.std.proofs.Common.{◌≡◌, drop}
 use Rattle.std.specs.List.{list_all}
-use Rattle.cluster_model.specs.Admission.{fits_job}
+use Rattle.fsm_model.specs.Admission.{fits_job}
 use Rattle.fsm_state.proofs.cluster.Cluster.fit_job.Given as goal
 
 abbrev pub invariant-loop-place : goal.invariant-loop-place

@@ -1,6 +1,6 @@
 use Rattle.std.proofs.Common.{◌≡◌, drop}
 use Rattle.std.specs.List.{list_any}
-use Rattle.cluster_model.specs.Words.{no_alloc}
+use Rattle.fsm_model.specs.Words.{no_alloc}
 use Rattle.fsm_state.proofs.cluster.Cluster.has_unknown.Given as goal
 
 abbrev pub invariant-loop-id : goal.invariant-loop-id

@@ -1,6 +1,6 @@
 use Rattle.std.proofs.Common.{◌≡◌, drop}
 use Rattle.std.specs.List.{list_any}
-use Rattle.cluster_model.specs.Admission.{is_asked}
+use Rattle.fsm_model.specs.Admission.{is_asked}
 use Rattle.fsm_state.proofs.cluster.Cluster.is_asked_by.Given as goal
 
 abbrev pub invariant-loop-group : goal.invariant-loop-group

@@ -1,7 +1,7 @@
 use Rattle.std.proofs.Common.{◌≡◌, ◌||◌, List, ℕ, drop}
 use Rattle.std.specs.BTreeSet.{contains}
 use Rattle.rows.specs.Keys.{name_cmp}
-use Rattle.cluster_model.specs.Effect.{told_all}
+use Rattle.fsm_model.specs.Effect.{told_all}
 use Rattle.fsm_state.specs.Inner.Steps.{has_name, ended_now}
 use Rattle.fsm_state.proofs.cluster.Cluster.jobs_ended.Given as goal
 

@@ -1,7 +1,7 @@
 use Rattle.std.proofs.Common.{◌≡◌, ◌+◌, ◌++◌, map, length}
 use Rattle.fsm_tables.specs.Runs.{rows_left}
-use Rattle.cluster_model.specs.Effect.{stop}
-use Rattle.cluster_model.specs.Plans.{left}
+use Rattle.fsm_model.specs.Effect.{stop}
+use Rattle.fsm_model.specs.Plans.{left}
 use Rattle.fsm_state.proofs.cluster.Cluster.left_by.Given as goal
 
 abbrev pub invariant-loop-row : goal.invariant-loop-row

@@ -1,6 +1,6 @@
 use Rattle.std.proofs.Common.{sym, ◌∙◌}
 use Rattle.fsm_tables.specs.Lookups.{lives_on}
-use Rattle.cluster_model.specs.Effect.{owns}
+use Rattle.fsm_model.specs.Effect.{owns}
 use Rattle.fsm_state.proofs.Admitting.{names_are}
 use Rattle.fsm_state.proofs.Touching.{owners_listed}
 use Rattle.fsm_state.proofs.cluster.Cluster.loss_passes.Goals as goal

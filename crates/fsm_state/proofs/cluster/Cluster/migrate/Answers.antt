@@ -1,12 +1,12 @@
 use Rattle.std.proofs.Common.{◌≡◌, map, sym, ap, ◌∙◌}
-use Rattle.cluster_model.specs.Words.{State}
-use Rattle.cluster_model.specs.Effect.{with_migrate_mark, owns, moves}
+use Rattle.fsm_model.specs.Words.{State}
+use Rattle.fsm_model.specs.Effect.{with_migrate_mark, owns, moves}
 use Rattle.fsm_state.proofs.StopLaws.{marked_is, moved_jobs}
 use Rattle.fsm_state.proofs.Retold.{retold, touched_both}
 use Rattle.fsm_state.proofs.cluster.Cluster.migrate.Goals as goal
 
-pub touch_all-requires : goal.touch_all-requires
-touch_all-requires c =
+pub create_evaluations-requires : goal.create_evaluations-requires
+create_evaluations-requires c =
     let s = c.args.self.now in
     let ids = c.args.ids.now in
     let e : c.mark_all.new.self ≡ record s { allocs = map (with_migrate_mark ids) s.allocs } = c.in_ok-mark_all.ensures ∙ marked_is ids s (record { nodes = c.ranges-2.ensures.tables.nodes.rising; allocs = c.ranges-2.ensures.tables.allocs.rising }) in
@@ -18,6 +18,6 @@ returns c =
     let ids = c.args.ids.now in
     let t = record s { allocs = map (with_migrate_mark ids) s.allocs } in
     let e : c.mark_all.new.self ≡ t = c.in_ok-mark_all.ensures ∙ marked_is ids s (record { nodes = c.ranges-2.ensures.tables.nodes.rising; allocs = c.ranges-2.ensures.tables.allocs.rising }) in
-    retold c.touch_all.result c.touch_all.new.self _ _
+    retold c.create_evaluations.result c.create_evaluations.new.self _ _
     (touched_both (owns (moves ids) s.allocs) _ _ _ (λ j. moved_jobs ids s (record { nodes = c.ranges-2.ensures.tables.nodes.rising; allocs = c.ranges-2.ensures.tables.allocs.rising }) j ∙ sym (c.in_ok-names.ensures j.name)) e)
-    c.touch_all.ensures
+    c.create_evaluations.ensures

@@ -1,5 +1,5 @@
 use Rattle.std.proofs.Common.{sym, ◌∙◌}
-use Rattle.cluster_model.specs.Effect.{owns, moves}
+use Rattle.fsm_model.specs.Effect.{owns, moves}
 use Rattle.fsm_state.proofs.StopLaws.{moved_jobs}
 use Rattle.fsm_state.proofs.Admitting.{names_are}
 use Rattle.fsm_state.proofs.cluster.Cluster.moves_pass.Goals as goal

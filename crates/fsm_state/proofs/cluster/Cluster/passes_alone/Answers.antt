@@ -1,7 +1,7 @@
 use Rattle.std.proofs.Common.{◌≡◌, ◌≤◌, ◌++◌, List, length, sym, ap, subst, ◌∙◌, arith}
 use Rattle.std.proofs.lemmas.List.{length-map}
 use Rattle.fsm_tables.specs.Claims.{Claim}
-use Rattle.cluster_model.specs.Plans.{place_claim, wanted}
+use Rattle.fsm_model.specs.Plans.{place_claim, wanted}
 use Rattle.fsm_state.proofs.Alone.{few_ended}
 use Rattle.fsm_state.proofs.cluster.Cluster.passes_alone.Goals as goal
 

@@ -1,5 +1,5 @@
 use Rattle.std.proofs.Common.{◌≡◌, drop}
-use Rattle.cluster_model.specs.Effect.{with_places}
+use Rattle.fsm_model.specs.Effect.{with_places}
 use Rattle.fsm_state.proofs.cluster.Cluster.place_all.Given as goal
 
 abbrev pub invariant-loop-slot : goal.invariant-loop-slot

@@ -1,6 +1,6 @@
 use Rattle.std.proofs.Common.{◌≡◌, sym, ap, ◌∙◌}
-use Rattle.cluster_model.specs.Words.{State}
-use Rattle.cluster_model.specs.Effect.{altered, stop, with_plan_places}
+use Rattle.fsm_model.specs.Words.{State}
+use Rattle.fsm_model.specs.Effect.{altered, stop, with_plan_places}
 use Rattle.fsm_state.specs.Inner.Steps.{stopped_all}
 use Rattle.fsm_state.proofs.StopLaws.{stopped_is}
 use Rattle.fsm_state.proofs.Retold.{retold}

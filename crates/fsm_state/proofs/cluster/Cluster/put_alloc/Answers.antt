@@ -7,8 +7,8 @@ use Rattle.rows.specs.Rising.{is_rising}
 use Rattle.fsm_tables.specs.Rows.{put_within}
 use Rattle.fsm_tables.specs.TableRows.{TableRows}
 use Rattle.fsm_tables.specs.Claims.{claims, claim_of, is_live}
-use Rattle.cluster_model.specs.Words.{State}
-use Rattle.cluster_model.specs.Safe.{are_distinct}
+use Rattle.fsm_model.specs.Words.{State}
+use Rattle.fsm_model.specs.Safe.{are_distinct}
 use Rattle.fsm_state.specs.Inner.Alone.{is_name_free}
 use Rattle.fsm_state.proofs.Alone.{put_within_once}
 use Rattle.fsm_state.proofs.cluster.Cluster.put_alloc.Goals as goal

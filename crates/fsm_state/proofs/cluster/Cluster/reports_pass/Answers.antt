@@ -1,5 +1,5 @@
 use Rattle.std.proofs.Common.{sym, ◌∙◌}
-use Rattle.cluster_model.specs.Effect.{owns, is_ended_by, told_all}
+use Rattle.fsm_model.specs.Effect.{owns, is_ended_by, told_all}
 use Rattle.fsm_state.proofs.Reports.{ended_are}
 use Rattle.fsm_state.proofs.Admitting.{names_are}
 use Rattle.fsm_state.proofs.cluster.Cluster.reports_pass.Goals as goal

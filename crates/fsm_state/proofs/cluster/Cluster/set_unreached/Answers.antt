@@ -1,6 +1,6 @@
 use Rattle.std.proofs.Common.{map, ap, ◌∙◌}
-use Rattle.cluster_model.specs.Words.{State}
-use Rattle.cluster_model.specs.Effect.{left_as}
+use Rattle.fsm_model.specs.Words.{State}
+use Rattle.fsm_model.specs.Effect.{left_as}
 use Rattle.fsm_state.proofs.StepLaws.{marked_node}
 use Rattle.fsm_state.proofs.Retold.{retold}
 use Rattle.fsm_state.proofs.cluster.Cluster.set_unreached.Goals as goal

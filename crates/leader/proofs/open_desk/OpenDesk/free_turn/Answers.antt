@@ -8,6 +8,6 @@ use Rattle.leader.proofs.open_desk.OpenDesk.free_turn.Goals as goal
 
 pub returns-clause-ok : goal.returns-clause-ok
 returns-clause-ok c =
-    let whole = c.args.whole.now in
-    let found = c.first_blocked.ensures ∙ ap (find (is_blocked_in whole)) (c.as_slice.ensures ∙ c.in_ok-due.ensures.ok) ∙ freed_is whole (blocked_of c.self.inside.blocked) in
-    ap (λ (o : OpenDesk). on_free_turn whole o) (sym c.self.view_is) ∙ ap Ok (sym found)
+    let projected = c.args.projected.now in
+    let found = c.first_blocked.ensures ∙ ap (find (is_blocked_in projected)) (c.as_slice.ensures ∙ c.in_ok-due.ensures.ok) ∙ freed_is projected (blocked_of c.self.inside.blocked) in
+    ap (λ (o : OpenDesk). on_free_turn projected o) (sym c.self.view_is) ∙ ap Ok (sym found)

@@ -8,7 +8,7 @@ use Rattle.leader.proofs.open_desk.OpenDesk.reap.Goals as goal
 
 pub returns : goal.returns
 returns c =
-    let whole = c.args.whole.now in
-    let first = λ (us : List Urgency). option_map (λ (u : Urgency). u.id) (find (stands_pending whole) us) in
-    let found = c.first_pending.ensures ∙ ap first c.failed.ensures ∙ reaped_is whole c.self.inside.broker in
-    ap (λ (o : OpenDesk). on_reap whole o) (sym c.self.view_is) ∙ ap Ok (sym found)
+    let projected = c.args.projected.now in
+    let first = λ (us : List Urgency). option_map (λ (u : Urgency). u.id) (find (stands_pending projected) us) in
+    let found = c.first_pending.ensures ∙ ap first c.failed.ensures ∙ reaped_is projected c.self.inside.broker in
+    ap (λ (o : OpenDesk). on_reap projected o) (sym c.self.view_is) ∙ ap Ok (sym found)

@@ -4,7 +4,7 @@ use Rattle.raft_core.proofs.raft.Raft.accept_append.Goals as goal
 
 pub returns-in-Ok-clause-taken : goal.returns-in-Ok-clause-taken
 returns-in-Ok-clause-taken g c =
-    let m = g.M.Machine.meaning in
+    let m = g.M.Machine.spec in
     let a = c.args in
     let old-is = rw c.in-Some-machine.is at c.self.view_is in
     let later = rw (← old-is) at c.requires.later in

@@ -7,5 +7,5 @@ returns-in-Leader-clause-taken g c =
     let i = c.self.inside in
     let all = rw c.deref.ensures.value at c.send_to_others.ensures.ok in
     on_ok c.send_to_others.result
-    (beats_by g.M.Machine.meaning c.args.self.now i.log.base i.machine i.me i.size i.term i.vote i.log.entries i.commit i.known i.role i.votes.items i.next.items i.matched.items _ c.args.outbox.now c.send_to_others.new.outbox c.self.view_is c.shown.ensures c.requires c.in-Leader.is c.self.invariant.next_each)
+    (beats_by g.M.Machine.spec c.args.self.now i.log.base i.machine i.me i.size i.term i.vote i.log.entries i.commit i.known i.role i.votes.items i.next.items i.matched.items _ c.args.outbox.now c.send_to_others.new.outbox c.self.view_is c.covered_is_committed.ensures c.requires c.in-Leader.is c.self.invariant.next_each)
     all

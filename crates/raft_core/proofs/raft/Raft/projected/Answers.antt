@@ -5,11 +5,11 @@ use Rattle.raft_core.proofs.raft.Raft.projected.Goals as goal
 
 pub returns : goal.returns
 returns g c =
-    let made = c.in_ok-make_ahead.ensures in
+    let made = c.in_ok-make_projected.ensures in
     let leads : is_leader c.args.self.now.server.mode ≡ true = search rules in (
       (refl, (λ r. tt), (made.same, made.has)),
       record {
-        value = whole_each g.M.Machine.meaning c.args.self.now c.make_ahead.new.self c.machine_ahead.result made.same leads c.machine_ahead.ensures;
+        value = whole_each g.M.Machine.spec c.args.self.now c.make_projected.new.self c.projected_machine.result made.same leads c.projected_machine.ensures;
         refused = tt;
         held = tt;
         same = tt;

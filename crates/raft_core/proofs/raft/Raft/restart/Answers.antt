@@ -21,6 +21,6 @@ invariant_of-result g c =
       next_least = filled_least c.in-Ok.levels.next.items size 1 size made.next (omega arith) (ap length made.next ∙ length-replicate size _);
       next_most = filled_most c.in-Ok.levels.next.items size 1 made.next (omega arith);
       matched_each = ap length made.matched ∙ length-replicate size _;
-      live = rw c.covered-commit.ensures.value (fresh g.M.Machine.meaning _ _ size c.in-Ok.levels.matched.items _ (omega (arith, c.covered-commit.ensures.value, c.covered-commit.ensures.within)) (c.in-Ok-fork.ensures ∙ c.state.ensures.value) made.matched);
+      live = rw c.covered-commit.ensures.value (fresh g.M.Machine.spec _ _ size c.in-Ok.levels.matched.items _ (omega (arith, c.covered-commit.ensures.value, c.covered-commit.ensures.within)) (c.in-Ok-fork.ensures ∙ c.state.ensures.value) made.matched);
       second = tt;
     }

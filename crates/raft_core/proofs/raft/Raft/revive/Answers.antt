@@ -16,6 +16,6 @@ invariant_of-self g c =
       next_least = kept.next_least;
       next_most = kept.next_most;
       matched_each = omega (arith, c.fill.ensures.len, kept.matched_each, i.matched.ok.0, c.fill.new.self.ok.0);
-      live = rw c.covered-self-inside.ensures.value (fresh g.M.Machine.meaning i.log.base i.log.entries _ c.fill.new.self.items _ (omega (arith, c.covered-self-inside.ensures.value, c.covered-self-inside.ensures.within)) (c.in_ok-machine.ensures ∙ c.state.ensures.value) (c.fill.ensures.items (λ y e. e)));
+      live = rw c.covered-self-inside.ensures.value (fresh g.M.Machine.spec i.log.base i.log.entries _ c.fill.new.self.items _ (omega (arith, c.covered-self-inside.ensures.value, c.covered-self-inside.ensures.within)) (c.in_ok-machine.ensures ∙ c.state.ensures.value) (c.fill.ensures.items (λ y e. e)));
       second = tt;
     }

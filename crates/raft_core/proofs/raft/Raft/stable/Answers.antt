@@ -6,4 +6,4 @@ use Rattle.raft_core.proofs.raft.Raft.stable.Goals as goal
 pub returns-clause-stored : goal.returns-clause-stored
 returns-clause-stored g c =
     let is : c.from_parts.result ≡ stored_part c.args.self.now = search rules in
-    stores_each g.M.Machine.meaning c.args.self.now c.shown.ensures c.from_parts.result is
+    stores_each g.M.Machine.spec c.args.self.now c.covered_is_committed.ensures c.from_parts.result is

@@ -5,11 +5,11 @@ use Rattle.raft_core.proofs.raft.beats.send_to_others.Goals as goal
 use Rattle.raft_core.proofs.raft.beats.send_to_others.Goals.{then-position+in_ok-send_from, else-position}
 
 pub loop-position-init : goal.loop-position-init
-loop-position-init g c = record { sent = λ covered fits. asks_none g.M.Machine.meaning c.args.me _ c.args.outbox.now; front = sent_all c.args.outbox.now }
+loop-position-init g c = record { sent = λ covered fits. asks_none g.M.Machine.spec c.args.me _ c.args.outbox.now; front = sent_all c.args.outbox.now }
 
 pub loop-position-preserved : goal.loop-position-preserved
 loop-position-preserved g c =
-    let m = g.M.Machine.meaning in
+    let m = g.M.Machine.spec in
     let me = c.args.me in
     let position = c.loop-position.position in
     let next = sym (number-read c.args.next.now position 0 c.loop-position-test.true) in

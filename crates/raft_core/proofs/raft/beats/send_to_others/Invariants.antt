@@ -10,6 +10,6 @@ use Rattle.raft_core.proofs.raft.beats.send_to_others.Given as goal
 
 abbrev pub invariant-loop-position : goal.invariant-loop-position
 invariant-loop-position g l = record {
-  sent : (covered : List (Entry _)) → IsBaseOf g.M.Machine.meaning l.log.base covered → Sends g.M.Machine.meaning l.initial.outbox l.outbox (to_others l.me (λ to. sent_from l.me l.term l.commit covered l.log.entries (index_at l.next to) to) l.position);
+  sent : (covered : List (Entry _)) → IsBaseOf g.M.Machine.spec l.log.base covered → Sends g.M.Machine.spec l.initial.outbox l.outbox (to_others l.me (λ to. sent_from l.me l.term l.commit covered l.log.entries (index_at l.next to) to) l.position);
   front : KeepsFront l.initial.outbox l.outbox;
 }

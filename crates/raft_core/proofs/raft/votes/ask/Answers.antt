@@ -4,11 +4,11 @@ use Rattle.raft_core.proofs.raft.votes.ask.Goals as goal
 use Rattle.raft_core.proofs.raft.votes.ask.Goals.{then-position+in_ok-send, else-position}
 
 pub loop-position-init : goal.loop-position-init
-loop-position-init g c = record { sent = asks_none g.M.Machine.meaning c.args.me _ c.args.outbox.now; front = sent_all c.args.outbox.now }
+loop-position-init g c = record { sent = asks_none g.M.Machine.spec c.args.me _ c.args.outbox.now; front = sent_all c.args.outbox.now }
 
 pub loop-position-preserved : goal.loop-position-preserved
 loop-position-preserved g c =
-    let m = g.M.Machine.meaning in
+    let m = g.M.Machine.spec in
     let me = c.args.me in
     let position = c.loop-position.position in
     elim c.if-position.branch [

@@ -13,7 +13,7 @@ of-requires g c = record {
 
 pub returns-clause-whole : goal.returns-clause-whole
 returns-clause-whole g c = λ L is leads.
-    let m = g.M.Machine.meaning in
+    let m = g.M.Machine.spec in
     let i = c.self.inside in
     let log = c.args.self.now in
     let term = rw c.get.ensures.value at c.in-Some.ensures.value.1 in

@@ -16,37 +16,37 @@ pub returns-then-index-covered-2-clause-value : goal.returns-then-index-covered-
 returns-then-index-covered-2-clause-value g c =
     let i = c.self.inside in
     let at : c.args.index ≡ i.base.index = omega (arith, c.if-index-covered-2.true, c.get-covered.ensures.value, c.index.ensures.value) in
-    rw (← c.self.view_is) (inr (omega (arith, at)), c.term.ensures ∙ shown_covered g.M.Machine.meaning i.base.index i.base.term i.tail.items c.args.index c.if-index-eq0.false (omega (arith, at)))
+    rw (← c.self.view_is) (inr (omega (arith, at)), c.term.ensures ∙ shown_covered g.M.Machine.spec i.base.index i.base.term i.tail.items c.args.index c.if-index-eq0.false (omega (arith, at)))
 
 pub returns-then-index-covered-2-clause-whole : goal.returns-then-index-covered-2-clause-whole
 returns-then-index-covered-2-clause-whole g c = λ L is.
     let i = c.self.inside in
     let at : c.args.index ≡ i.base.index = omega (arith, c.if-index-covered-2.true, c.get-covered.ensures.value, c.index.ensures.value) in
     let low : c.args.self.now.base.index ≤ c.args.index = rw (← c.self.view_is) (omega (arith, at)) in
-    (returns-then-index-covered-2-clause-value g c).1 ∙ whole_term g.M.Machine.meaning i.base i.tail.items c.args.self.now c.self.view_is c.self.invariant.snapshot L is c.args.index low
+    (returns-then-index-covered-2-clause-value g c).1 ∙ whole_term g.M.Machine.spec i.base i.tail.items c.args.self.now c.self.view_is c.self.invariant.snapshot L is c.args.index low
 
 pub returns-in-Some-clause-value : goal.returns-in-Some-clause-value
 returns-in-Some-clause-value g c =
     let i = c.self.inside in
     let past : i.base.index < c.args.index = omega (arith, c.if-index-covered.false, c.if-index-covered-2.false, c.get-covered.ensures.value, c.index.ensures.value) in
     let there = rw (c.deref.ensures.value, c.get-covered.ensures.value, c.index.ensures.value) at c.in-Some.ensures.lookup in
-    rw (← c.self.view_is) (inr (omega (arith, past)), shown_there g.M.Machine.meaning i.base.index i.base.term i.tail.items c.args.index c.in-Some.entry.now past there.0 there.1)
+    rw (← c.self.view_is) (inr (omega (arith, past)), shown_there g.M.Machine.spec i.base.index i.base.term i.tail.items c.args.index c.in-Some.entry.now past there.0 there.1)
 
 pub returns-in-Some-clause-whole : goal.returns-in-Some-clause-whole
 returns-in-Some-clause-whole g c = λ L is.
     let i = c.self.inside in
     let low : c.args.self.now.base.index ≤ c.args.index = rw (← c.self.view_is) (omega (arith, c.if-index-covered.false, c.get-covered.ensures.value, c.index.ensures.value)) in
-    (returns-in-Some-clause-value g c).1 ∙ whole_term g.M.Machine.meaning i.base i.tail.items c.args.self.now c.self.view_is c.self.invariant.snapshot L is c.args.index low
+    (returns-in-Some-clause-value g c).1 ∙ whole_term g.M.Machine.spec i.base i.tail.items c.args.self.now c.self.view_is c.self.invariant.snapshot L is c.args.index low
 
 pub returns-in-None-clause-value : goal.returns-in-None-clause-value
 returns-in-None-clause-value g c =
     let i = c.self.inside in
     let past : i.base.index < c.args.index = omega (arith, c.if-index-covered.false, c.if-index-covered-2.false, c.get-covered.ensures.value, c.index.ensures.value) in
     let out = rw (c.deref.ensures.value, c.get-covered.ensures.value, c.index.ensures.value) at c.in-None.ensures.lookup in
-    rw (← c.self.view_is) (inr (omega (arith, past)), shown_past g.M.Machine.meaning i.base.index i.base.term i.tail.items c.args.index past out.0)
+    rw (← c.self.view_is) (inr (omega (arith, past)), shown_past g.M.Machine.spec i.base.index i.base.term i.tail.items c.args.index past out.0)
 
 pub returns-in-None-clause-whole : goal.returns-in-None-clause-whole
 returns-in-None-clause-whole g c = λ L is.
     let i = c.self.inside in
     let low : c.args.self.now.base.index ≤ c.args.index = rw (← c.self.view_is) (omega (arith, c.if-index-covered.false, c.get-covered.ensures.value, c.index.ensures.value)) in
-    (returns-in-None-clause-value g c).1 ∙ whole_term g.M.Machine.meaning i.base i.tail.items c.args.self.now c.self.view_is c.self.invariant.snapshot L is c.args.index low
+    (returns-in-None-clause-value g c).1 ∙ whole_term g.M.Machine.spec i.base i.tail.items c.args.self.now c.self.view_is c.self.invariant.snapshot L is c.args.index low

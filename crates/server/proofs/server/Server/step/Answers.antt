@@ -7,13 +7,13 @@ returns-in_default c =
     let old = c.args.self.now in
     let h = handing c.args.input in
     let cause = c.in-Err.cause in
-    let parts = declined_parts old c.act.new.self h c.args.outbox.now c.act.new.outbox cause c.in_default.not-NoMemory c.in-Err.ensures.stopped in
+    let parts = declined_parts old c.handle_input.new.self h c.args.outbox.now c.handle_input.new.outbox cause c.in_default.not-NoMemory c.in-Err.ensures.stopped in
     record {
-      same = c.act.ensures.same;
+      same = c.handle_input.ensures.same;
       taken = tt;
       admitted = tt;
       refused = λ s is. refused_of old.raft.size old.raft.me s h cause c.in_default.not-NoMemory (parts.0 s is);
-      left = λ s is. left_of old c.act.new.self s h cause c.in_default.not-NoMemory parts.1.same;
-      stays = stays_of old c.act.new.self h cause c.in_default.not-NoMemory parts.1.same;
+      left = λ s is. left_of old c.handle_input.new.self s h cause c.in_default.not-NoMemory parts.1.same;
+      stays = stays_of old c.handle_input.new.self h cause c.in_default.not-NoMemory parts.1.same;
       unsent = parts.1.nothing;
     }

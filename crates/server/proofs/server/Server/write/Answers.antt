@@ -1,6 +1,6 @@
 use Rattle.std.proofs.Common.{◌≡◌, true, false, refl, sym, subst, ap, ◌∙◌}
 use Rattle.raft_model.specs.Rafts.{is_leader}
-use Rattle.group_model.specs.Desks.{whole_state}
+use Rattle.group_model.specs.Desks.{projected_state}
 use Rattle.group_model.specs.ClientRequests.{is_taken_already}
 use Rattle.server.specs.ServerViews.{ServerView, SameServer}
 use Rattle.server.specs.Inner.Acts.{EachServer}
@@ -15,7 +15,7 @@ returns-in_default-clause-taken c =
     let held = c.self.view_is in
     let me : c.me-me.result ≡ old.raft.me = c.me-me.ensures ∙ ap (λ (v : ServerView). v.raft.me) held in
     let leads : is_leader old.raft.server.mode ≡ true = sym c.leads.ensures ∙ c.if-not-leads.false in
-    let fresh = subst (λ (v : ServerView). EachServer v (λ s. is_taken_already (whole_state s.raft) c.args.command ≡ false)) held (λ s is. sym (c.in_ok-is_taken_already.ensures.value s.raft is.raft) ∙ c.if-branch.false) in
+    let fresh = subst (λ (v : ServerView). EachServer v (λ s. is_taken_already (projected_state s.raft) c.args.command ≡ false)) held (λ s is. sym (c.in_ok-is_taken_already.ensures.value s.raft is.raft) ∙ c.if-branch.false) in
     let mid : ServerView = record { raft = c.is_taken_already.new.raft; desk = c.self.inside.desk } in
     let same : SameServer old mid = subst (λ (v : ServerView). SameServer v mid) held (record { raft = c.is_taken_already.ensures.same; desk = refl }) in
     let front = front_of _ _ _ c.in_ok-send_told.ensures.sent in

@@ -9,7 +9,7 @@ pub invariant_of-self-2 : goal.invariant_of-self-2
 invariant_of-self-2 g c =
     let i = c.self.inside in
     let wrote = c.in_ok-write_frame.ensures.ok in
-    let text = message_text g.M.Machine.meaning (install_message {C = g.row.M-Command.Denot} c.args.from c.args.to c.args.head.now c.args.state.now) in
+    let text = message_text g.M.Machine.spec (install_message {C = g.row.M-Command.Denot} c.args.from c.args.to c.args.head.now c.args.state.now) in
     let q = pushed i.ends.items i.bytes.items (record { to = actors.Server c.args.to; end = c.len.result }) text c.push_reserved.new.self.items c.write_frame.new.out.items
     c.self.invariant wrote.1 (c.len.ensures ∙ c.write_frame.new.out.ok.0) (c.push_reserved.ensures.items ∙ ap (λ l. l ++ (record { to = actors.Server c.args.to; end = c.len.result }) ∷ []) c.in_ok-reserve.ensures.items) in
     q.rise
@@ -18,7 +18,7 @@ pub returns-clause-ok : goal.returns-clause-ok
 returns-clause-ok g c =
     let i = c.self.inside in
     let wrote = c.in_ok-write_frame.ensures.ok in
-    let text = message_text g.M.Machine.meaning (install_message {C = g.row.M-Command.Denot} c.args.from c.args.to c.args.head.now c.args.state.now) in
+    let text = message_text g.M.Machine.spec (install_message {C = g.row.M-Command.Denot} c.args.from c.args.to c.args.head.now c.args.state.now) in
     let q = pushed i.ends.items i.bytes.items (record { to = actors.Server c.args.to; end = c.len.result }) text c.push_reserved.new.self.items c.write_frame.new.out.items
     c.self.invariant wrote.1 (c.len.ensures ∙ c.write_frame.new.out.ok.0) (c.push_reserved.ensures.items ∙ ap (λ l. l ++ (record { to = actors.Server c.args.to; end = c.len.result }) ∷ []) c.in_ok-reserve.ensures.items) in
     (wrote.0, q.frames ∙ ap (λ fs. fs ++ framed (actors.Server c.args.to) text ∷ []) c.self.view_is)

@@ -1,5 +1,5 @@
 use Rattle.world.proofs.GroupBegins.{MadeServers}
 use Rattle.world.proofs.group.world.new_servers.Given as goal
 
-abbrev pub invariant-loop-place : goal.invariant-loop-place
-invariant-loop-place l = MadeServers l.n l.place l.servers.items
+abbrev pub invariant-loop-position : goal.invariant-loop-position
+invariant-loop-position l = MadeServers l.n l.position l.servers.items

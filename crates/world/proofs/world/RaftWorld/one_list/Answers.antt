@@ -7,4 +7,4 @@ use Rattle.world.proofs.world.RaftWorld.one_list.Goals as goal
 pub returns : goal.returns
 returns g c =
     let l = c.one_list.ensures in
-    subst (λ (x : WorldView g.row.M.Denot g.row.M-Command.Denot). OneListEver g.M.Machine.meaning x) c.self.view_is (one_list_ever g.M.Machine.meaning _ c.self.invariant l.exists l.long l.number)
+    subst (λ (x : WorldView g.row.M.Denot g.row.M-Command.Denot). OneListEver g.M.Machine.spec x) c.self.view_is (one_list_ever g.M.Machine.spec _ c.self.invariant l.exists l.long l.number)

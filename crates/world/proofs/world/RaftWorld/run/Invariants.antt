@@ -4,4 +4,4 @@ use Rattle.world.specs.Steps.{Played}
 use Rattle.world.proofs.world.RaftWorld.run.Given as goal
 
 abbrev pub invariant-loop-event : goal.invariant-loop-event
-invariant-loop-event g l = Played g.M.Machine.meaning l.n (world_events (take l.event-index l.events)) l.world
+invariant-loop-event g l = Played g.M.Machine.spec l.n (world_events (take l.event-index l.events)) l.world

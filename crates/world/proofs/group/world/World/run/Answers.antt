@@ -30,4 +30,4 @@ loop-event-preserved c =
     group_event_more before _ item more ∙ ap (λ e. group_events before ++ e ∷ []) (sym c.in_ok-try_clone.ensures.same) in
     subst (λ es. GroupPlayed c.args.n c.args.nodes.now es c.step-done.new.self) (sym again)
     (group_play_next c.args.n c.args.nodes.now c.limits_are_kept.ensures (nodes_fit c.args.nodes.now begun.few c.all_ranges.ensures) (group_events before) c.loop-event.world c.step-done.new.self
-    (group_event c.in_ok-try_clone.field-0) c.step-done.result c.loop-event.invariant c.step-done.ensures.ok c.step-done.ensures.err c.step-done.ensures.cause c.if-lacks_memory.ensures)
+    (group_event c.in_ok-try_clone.field-0) c.step-done.result c.loop-event.invariant c.step-done.ensures.ok c.step-done.ensures.err c.step-done.ensures.cause c.if-is_out_of_memory.ensures)

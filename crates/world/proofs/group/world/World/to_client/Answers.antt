@@ -15,9 +15,9 @@ returns-then-not-is_up c =
     refused_at_once c.args.self.now (Deliver (position_of c.args.k)) refusals.Down (λ e. cc)
     (client_receiver_sleeps c.args.self.now (position_of c.args.k) c.args.me c.requires c.in-Some.client.now (sym c.in-Some.ensures) (sym c.if-not-is_up.ensures))
 
-pub bring_to_client-requires-clause-member : goal.bring_to_client-requires-clause-member
-bring_to_client-requires-clause-member c = client_within c.args.self.now.clients c.args.me c.in-Some.client.now (sym c.in-Some.ensures)
+pub deliver_to_client-requires-clause-member : goal.deliver_to_client-requires-clause-member
+deliver_to_client-requires-clause-member c = client_within c.args.self.now.clients c.args.me c.in-Some.client.now (sym c.in-Some.ensures)
 
-pub bring_to_client-requires-clause-awake : goal.bring_to_client-requires-clause-awake
-bring_to_client-requires-clause-awake c =
+pub deliver_to_client-requires-clause-awake : goal.deliver_to_client-requires-clause-awake
+deliver_to_client-requires-clause-awake c =
     client_receiver_awake c.args.self.now (position_of c.args.k) c.args.me c.requires c.in-Some.client.now (sym c.in-Some.ensures) (sym c.is_up.ensures ∙ c.if-not-is_up.false)

@@ -16,9 +16,9 @@ returns-then-is_none c =
     refused_at_once c.args.self.now (Deliver (position_of c.args.k)) refusals.Down (λ e. cc)
     (receiver_sleeps c.args.self.now (position_of c.args.k) c.args.me c.requires c.in-Some.server.now c.role.result (sym c.in-Some.ensures) c.role.ensures.value c.if-is_none.ensures)
 
-pub bring_to_server-requires-clause-member : goal.bring_to_server-requires-clause-member
-bring_to_server-requires-clause-member c = get-within c.args.self.now.servers c.args.me c.in-Some.server.now (sym c.in-Some.ensures)
+pub deliver_to_server-requires-clause-member : goal.deliver_to_server-requires-clause-member
+deliver_to_server-requires-clause-member c = get-within c.args.self.now.servers c.args.me c.in-Some.server.now (sym c.in-Some.ensures)
 
-pub bring_to_server-requires-clause-awake : goal.bring_to_server-requires-clause-awake
-bring_to_server-requires-clause-awake c =
+pub deliver_to_server-requires-clause-awake : goal.deliver_to_server-requires-clause-awake
+deliver_to_server-requires-clause-awake c =
     receiver_awake c.args.self.now (position_of c.args.k) c.args.me c.requires c.in-Some.server.now c.role.result (sym c.in-Some.ensures) c.role.ensures.value (c.is_none.ensures ∙ ap not c.if-is_none.false)

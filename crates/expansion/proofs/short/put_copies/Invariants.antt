@@ -1,7 +1,0 @@
-use Rattle.std.proofs.Common.{◌≡◌, ◌++◌, map, take}
-use Rattle.expansion.specs.ShortSteps.{short_step}
-use Rattle.expansion.proofs.short.put_copies.Given as goal
-
--- copies of those so far are put
-abbrev pub invariant-loop-step : goal.invariant-loop-step
-invariant-loop-step l = map short_step l.steps.items ≡ map short_step l.fn.steps.items ++ map short_step (take l.step-index l.own)

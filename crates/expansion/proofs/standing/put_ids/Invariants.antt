@@ -1,6 +1,0 @@
-use Rattle.std.proofs.Common.{◌≡◌, ◌++◌, map, take}
-use Rattle.expansion.specs.Inner.GroupStandings.{running_id}
-use Rattle.expansion.proofs.standing.put_ids.Given as goal
-
-abbrev pub invariant-loop-allocation : goal.invariant-loop-allocation
-invariant-loop-allocation l = l.ids.items ≡ l.fn.ids.items ++ map running_id (take l.allocation-index l.own)

@@ -1,5 +1,0 @@
-use Rattle.group_model.proofs.Following.{broker_follows, counts_follow}
-use Rattle.group_model.proofs.laws.one_row_follows.Goals as goal
-
-pub returns : goal.returns
-returns g = record { broker = broker_follows; counts = counts_follow }

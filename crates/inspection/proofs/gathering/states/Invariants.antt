@@ -1,7 +1,0 @@
-use Rattle.std.proofs.Common.{take}
-use Rattle.std.specs.List.{AllZip}
-use Rattle.inspection.specs.Inner.Applied.{IsStateAfter}
-use Rattle.inspection.proofs.gathering.states.Given as goal
-
-abbrev pub invariant-loop-one : goal.invariant-loop-one
-invariant-loop-one l = AllZip (IsStateAfter l.world.servers) (take l.one-index l.one-items) l.reports.items

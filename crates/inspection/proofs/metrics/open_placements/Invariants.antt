@@ -1,7 +1,0 @@
-use Rattle.std.proofs.Common.{take}
-use Rattle.std.specs.List.{AllZip}
-use Rattle.inspection.specs.Inner.Findings.{IsPlacement}
-use Rattle.inspection.proofs.metrics.open_placements.Given as goal
-
-abbrev pub invariant-loop-metrics : goal.invariant-loop-metrics
-invariant-loop-metrics l = AllZip IsPlacement (take l.metrics-index l.metrics-items) l.reports.items

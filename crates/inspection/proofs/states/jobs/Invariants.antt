@@ -1,7 +1,0 @@
-use Rattle.fsm_tables.specs.Runs.{rows_left}
-use Rattle.inspection.specs.Inner.StateRows.{IsJobReport}
-use Rattle.inspection.proofs.Zips.{ZipsOn}
-use Rattle.inspection.proofs.states.jobs.Given as goal
-
-abbrev pub invariant-loop-row : goal.invariant-loop-row
-invariant-loop-row l = ZipsOn IsJobReport l.state.jobs (rows_left l.row-iterator) l.reports.items

@@ -1,7 +1,0 @@
-use Rattle.std.proofs.Common.{rules}
-use Rattle.picture.proofs.Tops.{rows_hold}
-use Rattle.picture.proofs.layout.Layout.new.Goals as goal
-
-pub returns-clause-rows : goal.returns-clause-rows
-returns-clause-rows c =
-    rows_hold _ _ _ _ _ _ _ c.in_ok-slots.ensures.fans c.in_ok-tops.ensures (search rules) (search rules) (search rules) (search rules)

@@ -1,6 +1,0 @@
-use Rattle.std.proofs.Common.{◌≡◌, replicate}
-use Rattle.picture.specs.Inner.Fans.{no_fan}
-use Rattle.picture.proofs.layout.no_fans.Given as goal
-
-abbrev pub invariant-loop : goal.invariant-loop
-invariant-loop l = l.fans.items ≡ replicate l.counter no_fan

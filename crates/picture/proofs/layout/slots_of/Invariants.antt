@@ -1,9 +1,0 @@
-use Rattle.std.proofs.Common.{take}
-use Rattle.picture.specs.Inner.Layouts.{AreFans, AreSlots}
-use Rattle.picture.proofs.layout.slots_of.Given as goal
-
-abbrev pub invariant-loop-sending : goal.invariant-loop-sending
-invariant-loop-sending l = record {
-  fans : AreFans l.events (take l.sending-index l.sendings) l.fans.items;
-  slots : AreSlots l.events (take l.sending-index l.sendings) l.slots.items;
-}

@@ -1,7 +1,0 @@
-use Rattle.std.proofs.Common.{◌≡◌, take}
-use Rattle.std.specs.List.{count_by}
-use Rattle.placement_metrics.specs.Verdicts.{is_verdict}
-use Rattle.placement_metrics.proofs.counting.count_of.Given as goal
-
-abbrev pub invariant-loop-verdict : goal.invariant-loop-verdict
-invariant-loop-verdict l = l.count ≡ count_by (is_verdict l.kind) (take l.verdict-index l.verdicts)

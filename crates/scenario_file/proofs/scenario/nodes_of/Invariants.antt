@@ -1,7 +1,0 @@
-use Rattle.std.proofs.Common.{map, take}
-use Rattle.serde_json.specs.View.{view}
-use Rattle.scenario_file.specs.Objects.{AreNodes}
-use Rattle.scenario_file.proofs.scenario.nodes_of.Given as goal
-
-abbrev pub invariant-loop-value : goal.invariant-loop-value
-invariant-loop-value l = AreNodes 1 (map view (take l.value-index l.list)) l.nodes.items

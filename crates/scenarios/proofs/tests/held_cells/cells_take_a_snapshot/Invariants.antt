@@ -1,4 +1,0 @@
-use Rattle.scenarios.proofs.tests.held_cells.cells_take_a_snapshot.Given as goal
-
-abbrev pub ghosts-play : goal.ghosts-play
-ghosts-play g a = record { table = a.opened.0; actors = a.opened.1; nodes = a.nodes.items }

@@ -1,0 +1,230 @@
+//! The steps that a scenario in short form takes.
+ghost use Rattle.std.specs.Prelude.{◌≡◌, ◌≤◌, ◌*◌, ◌∷◌, [], ℕ, IfErr, IfOk, List, OnOk, length};
+ghost use Rattle.std.specs.Prelude.{map, string_bytes};
+ghost use Rattle.std.specs.List.{All};
+ghost use Rattle.world.specs.GroupSteps.{WhyNoGroup};
+ghost use Rattle.sim_scenario.specs.Complaints.{IsStepLine};
+ghost use Rattle.sim_play.specs.declared.play.Play.{Play};
+ghost use Rattle.sim_expand.specs.EachInTurn.{OfEach};
+ghost use Rattle.sim_expand.specs.Expanded.{AreTaken, LinesOf};
+ghost use Rattle.sim_expand.specs.Inner.Taking.{StandsAsTaken, TakesIf, TakesMore};
+ghost use Rattle.sim_expand.specs.Inner.Taking.{TakesUpTo, WhyNoLine, WhyNoShort, WhyNoMore};
+ghost use Rattle.sim_expand.specs.ShortSteps.{most_at_once, short_step};
+ghost use Rattle.sim_expand.specs.Stops.{WhyNotExpanded};
+
+use crate::settling::{Left, beat_line, next_of, plan_line, pull_lines, take_line, work_line};
+use crate::short::{MOST, ShortStep};
+use crate::standing::{Standing, standing_of};
+use rows::{NodeSpec, Refusal};
+use sim_play::lines::play_line;
+use sim_play::play::Play;
+use sim_scenario::scenario::Settings;
+use std::alloc::Global;
+
+// How often something is done at most where a `settle` has no number.
+const ROUNDS: u64 = 1_000;
+
+// How often in a row something is done at most that changes nothing, as where messages are lost.
+const MOST_IN_VAIN: u64 = 20;
+
+// A group, and the steps that led to it from its beginning. What it was made of is named by
+// contracts alone.
+#[derive(Drop)]
+struct Taken<'s> {
+    alloc: Global,
+    settings: Settings,
+    nodes: &'s [NodeSpec],
+    lines: Vec<String>,
+    play: Play,
+}
+
+/// The steps that these take on a new group of these settings and nodes: each plain one as it
+/// stands, and for a `settle` those that it takes there, up to 65 for each time that it does
+/// something. Fails with 12 where there is no such group, where a plain step is none, or where they
+/// come to more than 1,000,000; with 1 where there is no memory, for an actor of the group too.
+pub fn expanded(
+    alloc: Global,
+    settings: Settings,
+    nodes: &[NodeSpec],
+    steps: &[ShortStep],
+) -> Result<Vec<String>, Refusal>
+    ensures order { IfOk result (λ lines.
+        OfEach LinesOf (map short_step steps.now) (map string_bytes lines.items)) }
+    ensures taken { IfOk result (λ lines. (play : Play)
+        × AreTaken settings nodes.now (map string_bytes lines.items) play) }
+    ensures most { IfOk result (λ lines. length lines.items ≤ MOST) }
+    ensures refused { IfErr result (WhyNotExpanded settings nodes.now (map short_step steps.now)) }
+{
+    let mut taken = Taken::new(alloc, settings, nodes)?;
+    for step in steps {
+        taken.take(step)?;
+    }
+    Ok(taken.into_lines())
+}
+
+// How often something may still be done in vain, after something was done.
+fn left_in_vain(left: u64, was_in_vain: bool) -> u64 {
+    if was_in_vain {
+        left.saturating_sub(1)
+    } else {
+        MOST_IN_VAIN
+    }
+}
+
+impl<'s> Taken<'s> {
+    // A new group.
+    fn new(alloc: Global, settings: Settings, nodes: &'s [NodeSpec]) -> Result<Taken<'s>, Refusal>
+        ensures settings { IfOk result (λ t. t.settings ≡ settings) }
+        ensures nodes { IfOk result (λ t. t.nodes.now ≡ nodes.now) }
+        ensures none { IfOk result (λ t. t.lines.items ≡ []) }
+        ensures stands { IfOk result StandsAsTaken }
+        ensures refused { IfErr result (WhyNoGroup settings.servers nodes.now) }
+    {
+        Ok(Taken {
+            alloc,
+            settings,
+            nodes,
+            lines: Vec::new(alloc),
+            play: Play::new(alloc, settings, nodes)?,
+        })
+    }
+
+    fn into_lines(self) -> Vec<String>
+        ensures { result ≡ self.entry.lines }
+    {
+        let Taken {
+            alloc: _,
+            settings: _,
+            nodes: _,
+            lines,
+            play: _,
+        } = self;
+        lines
+    }
+
+    fn take(&mut self, step: &ShortStep) -> Result<(), Refusal>
+        requires { StandsAsTaken self.old }
+        ensures ok { OnOk result ((own : List (List ℕ)) × LinesOf (short_step step.now) own
+            × TakesMore self.old own self.new) }
+        ensures refused { IfErr result (WhyNoShort (short_step step.now) self.old) }
+    {
+        match step {
+            ShortStep::Plain(line) => self.line(line.as_str()),
+            ShortStep::Settle(count) => self.settle(count.unwrap_or(ROUNDS)),
+        }
+    }
+
+    // Takes the step of a line.
+    fn line(&mut self, line: &str) -> Result<(), Refusal>
+        requires { StandsAsTaken self.old }
+        ensures ok { OnOk result (TakesMore self.old (line.now ∷ []) self.new) }
+        ensures refused { IfErr result (WhyNoLine line.now self.old) }
+    {
+        if MOST <= self.lines.len() {
+            return Err(Refusal::OutOfRange);
+        }
+        let own = String::from_str(self.alloc, line)?;
+        play_line(self.alloc, line, &mut self.play)?;
+        if self.play.lacked {
+            return Err(Refusal::NoMemory);
+        }
+        self.lines.push(own)?;
+        Ok(())
+    }
+
+    // Does what is left to do, up to so many times, and until so many of them in a row changed
+    // nothing.
+    fn settle(&mut self, most: u64) -> Result<(), Refusal>
+        requires { StandsAsTaken self.old }
+        ensures ok { OnOk result (TakesUpTo (most * most_at_once) self.old self.new) }
+        ensures refused { IfErr result (WhyNoMore (most * most_at_once) self.old) }
+    {
+        let mut before = standing_of(self.alloc, &self.play)?;
+        let mut left = MOST_IN_VAIN;
+        for _ in 0..most {
+            if left == 0 {
+                return Ok(());
+            }
+            let done = self.round(&before)?;
+            if !done {
+                return Ok(());
+            }
+            let after = standing_of(self.alloc, &self.play)?;
+            left = left_in_vain(left, before == after);
+            before = after;
+        }
+        Ok(())
+    }
+
+    // Does the first of what is left to do, and answers whether there was anything.
+    fn round(&mut self, standing: &Standing) -> Result<bool, Refusal>
+        requires { StandsAsTaken self.old }
+        ensures ok { IfOk result (λ done. TakesIf done most_at_once self.old self.new) }
+        ensures refused { IfErr result (WhyNoMore most_at_once self.old) }
+    {
+        if standing.in_flight {
+            self.flow()?;
+            return Ok(true);
+        }
+        let Some(left) = next_of(self.alloc, &self.play, standing)? else {
+            return Ok(false);
+        };
+        self.take_left(left)?;
+        Ok(true)
+    }
+
+    // Takes the steps of what is left to do.
+    fn take_left(&mut self, left: Left) -> Result<(), Refusal>
+        requires { StandsAsTaken self.old }
+        ensures ok { OnOk result (TakesUpTo most_at_once self.old self.new) }
+        ensures refused { IfErr result (WhyNoMore most_at_once self.old) }
+    {
+        match left {
+            Left::Work(server) => self.go(&[work_line(self.alloc, server)?]),
+            Left::Plan(server) => self.go(&[plan_line(self.alloc, server)?]),
+            Left::Beat(server) => self.go(&[beat_line(self.alloc, server)?]),
+            Left::Take(server) => self.go(&[take_line(self.alloc, server)?]),
+            Left::Pull(server, news) => {
+                let lines = pull_lines(self.alloc, &self.play.world, server, news)?;
+                self.go(&lines)
+            }
+        }
+    }
+
+    // Takes the steps of these lines, and a flow behind them where messages are in flight then.
+    fn go(&mut self, lines: &[String]) -> Result<(), Refusal>
+        requires stands { StandsAsTaken self.old }
+        requires steps { All IsStepLine (map string_bytes lines.now) }
+        requires few { length lines.now ≤ 64 }
+        ensures ok { OnOk result (TakesUpTo most_at_once self.old self.new) }
+        ensures refused { IfErr result (WhyNoMore most_at_once self.old) }
+    {
+        self.take_lines(lines)?;
+        self.flow()
+    }
+
+    // Takes the steps of these lines.
+    fn take_lines(&mut self, lines: &[String]) -> Result<(), Refusal>
+        requires stands { StandsAsTaken self.old }
+        requires steps { All IsStepLine (map string_bytes lines.now) }
+        ensures ok { OnOk result (TakesUpTo (length lines.now) self.old self.new) }
+        ensures refused { IfErr result (WhyNoMore (length lines.now) self.old) }
+    {
+        for line in lines {
+            self.line(line.as_str())?;
+        }
+        Ok(())
+    }
+
+    // Takes a flow, where messages are in flight.
+    fn flow(&mut self) -> Result<(), Refusal>
+        requires { StandsAsTaken self.old }
+        ensures ok { OnOk result (TakesUpTo 1 self.old self.new) }
+        ensures refused { IfErr result (WhyNoMore 1 self.old) }
+    {
+        if self.play.flight.len() == 0 {
+            return Ok(());
+        }
+        self.line("flow")
+    }
+}

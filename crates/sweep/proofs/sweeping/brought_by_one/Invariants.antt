@@ -1,7 +1,0 @@
-use Rattle.std.specs.List.{All}
-use Rattle.sweep.specs.Inner.Found.{IsNumbered}
-use Rattle.sweep.proofs.sweeping.brought_by_one.Given as goal
-
--- what was brought so far
-abbrev pub invariant-loop : goal.invariant-loop
-invariant-loop g l = All (IsNumbered l.task.scenario.now l.task.settings l.task.first) l.rows.items

@@ -1,6 +1,0 @@
-use Rattle.std.proofs.Common.{◌≡◌, ◌+◌, drop, string_bytes}
-use Rattle.telling.specs.Sent.{sent_text, with_frames}
-use Rattle.telling.proofs.sent.sent_since.Given as goal
-
-abbrev pub invariant-loop-place : goal.invariant-loop-place
-invariant-loop-place l = with_frames (l.place + 1) (drop l.place l.sent) (string_bytes l.words) ≡ sent_text l.from l.sent
