@@ -47,7 +47,7 @@ impl<M: Machine> Model for RaftWorld<M> {
     ghost invariant = { λ a. IsRaftWorld M.spec (record { servers = a.servers.items; sent = a.history.sent; trace = a.history.trace; chain = a.history.chain }) };
 }
 
-/// The server at this place, before its first input.
+/// The server at this position, before its first input.
 fn newcomer<M: Machine>(alloc: Global, position: usize, n: usize) -> Result<Raft<M>, NoMemory>
     requires { IsGroupMember n position }
     ensures number { IfOk result (λ r. (r.me ≡ position) × (r.size ≡ n)) }

@@ -66,7 +66,7 @@ impl Model for World {
     ghost invariant = { λ a. GroupInvariant (record { servers = a.servers.items; clients = a.clients.items; outbox = a.history.outbox; trace = a.history.trace; chain = a.history.chain }) };
 }
 
-/// The server at this place, before its first input.
+/// The server at this position, before its first input.
 fn new_server(alloc: Global, position: usize, n: usize) -> Result<Server, NoMemory>
     requires { (IsGroup n) × (position < n) }
     ensures number { IfOk result (λ s. (s.raft.me ≡ position) × (s.raft.size ≡ n)) }
@@ -84,7 +84,7 @@ fn new_server(alloc: Global, position: usize, n: usize) -> Result<Server, NoMemo
     }
 }
 
-/// The client of the node at this place, before its first input. Its number is its place's.
+/// The client of the node at this position, before its first input. Its number is one more.
 fn new_client(alloc: Global, position: usize, node: &NodeSpec, n: usize) -> Agent
     requires { (IsGroup n) × (position < 64) }
     ensures { result ≡ record { size = n; client = agent_of (record node.now { number = suc position }) } }
@@ -588,7 +588,7 @@ impl World {
         self.history.take_work()
     }
 
-    /// How many servers there are: 3 or 5. Each knows that number, and its own place.
+    /// How many servers there are: 3 or 5. Each knows that number, and its own position.
     pub fn size(&self) -> usize
         ensures value { result ≡ length self.now.servers }
         ensures group { IsGroup result }
