@@ -1,7 +1,7 @@
 use Rattle.std.proofs.Common.{option_map, subst, sym}
 use Rattle.raft_core.specs.Steps.{Stores}
 use Rattle.example_bank_server.specs.Lives.{header_text}
-use Rattle.example_bank_server.specs.Starts.{IsStored}
+use Rattle.raft_records.specs.Starts.{IsStored}
 use Rattle.example_bank_server.proofs.start.begin.Goals as goal
 
 pub returns-in-Ok-clause-server : goal.returns-in-Ok-clause-server

@@ -1,0 +1,6 @@
+pub mod Items
+pub mod Records
+pub mod Turns
+pub mod Statuses
+pub mod Starts
+pub mod Laws
