@@ -90,8 +90,8 @@ impl Agent {
         started: &[AllocId],
     ) -> Result<Agent, Refusal>
         ensures ok { IfOk result (λ a. a ≡ record {
-            size = n;
-            client = record (agent_of node) { started = started.now };
+          size = n;
+          client = record (agent_of node) { started = started.now };
         }) }
         ensures lawful { OnOk result (IsGroup n × AreDistinct started.now) }
         ensures err { IfErr result (λ cause. (cause ≡ refusals.NoMemory)

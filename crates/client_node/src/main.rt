@@ -49,7 +49,10 @@ fn header_of(alloc: Global, node: &NodeSpec, size: usize) -> Result<Vec<u8>, NoM
     let cpu = node.size.cpu.get();
     let mem = node.size.mem.get();
     let disk = node.size.disk.get();
-    match writeln!(header, "1 client_node {number} {class} {cpu} {mem} {disk} of {size}") {
+    match writeln!(
+        header,
+        "1 client_node {number} {class} {cpu} {mem} {disk} of {size}"
+    ) {
         Ok(()) => Ok(header),
         Err(_) => Err(NoMemory),
     }

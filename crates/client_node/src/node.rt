@@ -54,7 +54,7 @@ pub struct ClientNode {
 
 impl Model for ClientNode {
     ghost use Rattle.client_node.specs.Items.{IsFrame, IsTime};
-ghost use Rattle.client_node.specs.Turns.{NodeView};
+    ghost use Rattle.client_node.specs.Turns.{NodeView};
 
     ghost Value = { NodeView };
 
@@ -69,8 +69,8 @@ fn agent_again(
     started: &[AllocId],
 ) -> Result<Agent, Refusal>
     ensures ok { IfOk result (λ a. a ≡ record {
-        size = size;
-        client = record (agent_of node) { started = started.now };
+      size = size;
+      client = record (agent_of node) { started = started.now };
     }) }
     ensures lawful { OnOk result (IsGroup size × AreDistinct started.now) }
 {
@@ -95,11 +95,7 @@ fn hand(
 }
 
 /// The same of a frame: all of its bytes.
-fn bring(
-    agent: &mut Agent,
-    frame: &[u8],
-    frames: &mut Frames,
-) -> Result<Option<Refusal>, NoMemory>
+fn bring(agent: &mut Agent, frame: &[u8], frames: &mut Frames) -> Result<Option<Refusal>, NoMemory>
     ensures hands { OnOk result
         (Hands agent.old (inputs.Frame frame.now) agent.new frames.old frames.new) }
     ensures refused { IfOk result (λ cause.
@@ -195,8 +191,8 @@ impl ClientNode {
     ) -> Result<ClientNode, Fault>
         ensures { IfOk result (λ n. (n.timers ≡ timers)
             × (n.agent ≡ record {
-                size = size;
-                client = record (agent_of node) { started = started.now };
+              size = size;
+              client = record (agent_of node) { started = started.now };
             })) }
     {
         match agent_again(alloc, node, size, started) {

@@ -108,11 +108,7 @@ fn follow<M: Machine>(
 
 /// What the records of a journal stand for that stand from an offset on. A record that was being
 /// written may be torn, and is left out; any other fault is at the offset of its record.
-fn from_journal<M: Machine>(
-    alloc: Global,
-    bytes: &[u8],
-    start: usize,
-) -> Result<Stable<M>, Unread>
+fn from_journal<M: Machine>(alloc: Global, bytes: &[u8], start: usize) -> Result<Stable<M>, Unread>
     requires { start ≤ length bytes.now }
     ensures kept { IfOk result (λ s. ReplaysTo M.spec (drop start bytes.now) s) }
     ensures fault { IfErr result (λ error. (place : ℕ) → error ≡ unread.At place →

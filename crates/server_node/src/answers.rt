@@ -9,7 +9,7 @@ ghost use Rattle.server_node.specs.Answers.{answer, placed_text, refused_text, r
 
 use fields::write_u64;
 use journal::{Out, item_of};
-use raft_core::{Role, ProposalStatus};
+use raft_core::{ProposalStatus, Role};
 use rows::{NoMemory, Refusal};
 use server::Server;
 use std::alloc::Global;
@@ -27,12 +27,7 @@ pub fn written(done: io::Result<()>) -> Result<(), NoMemory>
 }
 
 /// Puts an answer behind what is sent and reported.
-pub fn put_answer(
-    alloc: Global,
-    id: u64,
-    text: &[u8],
-    outs: &mut Vec<Out>,
-) -> Result<(), NoMemory>
+pub fn put_answer(alloc: Global, id: u64, text: &[u8], outs: &mut Vec<Out>) -> Result<(), NoMemory>
     ensures { OnOk result (map output_event outs.new.items
         ≡ map output_event outs.old.items ++ answer id text.now ∷ []) }
 {
@@ -45,12 +40,7 @@ pub fn put_answer(
 }
 
 /// `WORD INDEX TERM`.
-pub fn placed_text(
-    alloc: Global,
-    word: &str,
-    index: u64,
-    term: u64,
-) -> Result<Vec<u8>, NoMemory>
+pub fn placed_text(alloc: Global, word: &str, index: u64, term: u64) -> Result<Vec<u8>, NoMemory>
     ensures { IfOk result (λ text. text.items ≡ placed_text word.now index term) }
 {
     let mut text = Vec::new(alloc);

@@ -94,9 +94,9 @@ fn look_at_deliveries(state: &Cluster, desk: &Desk, sights: &mut Sights) -> Resu
 /// What a leader's timers look at; nothing, where its desk is closed.
 pub fn look(alloc: Global, server: &Server) -> Result<Sights, NoMemory>
     ensures { IfOk result (λ sights. SeesDesk server.now (record {
-        nodes = sights.nodes.items;
-        deliveries = sights.deliveries.items;
-        drained = sights.drained.items;
+      nodes = sights.nodes.items;
+      deliveries = sights.deliveries.items;
+      drained = sights.drained.items;
     })) }
 {
     let mut sights = no_sights(alloc);

@@ -15,7 +15,7 @@ ghost use Rattle.server_node.specs.Laws.Outputs.{outputs_alone};
 ghost use Rattle.server_node.specs.Nodes.{NodeView};
 ghost use Rattle.server_node.specs.Turns.{IsTold, Turn, WentBy, sends, stored_by};
 
-use crate::answers::{placed_text, put_answer, put_line, refused_text, proposal_word, status_text};
+use crate::answers::{placed_text, proposal_word, put_answer, put_line, refused_text, status_text};
 use crate::asked::Asked;
 use crate::handing::{bring, hand, log_of};
 use crate::items::{is_frame, read_line, read_question, read_request, read_status, read_time};
@@ -86,18 +86,17 @@ fn put_all(answers: Vec<Out>, outs: &mut Vec<Out>) -> Result<(), NoMemory>
 
 /// Whether a frame that was taken tells of a leader: it is one of its Appends or Installs.
 fn is_of_leader(frame: &[u8]) -> bool {
-    frame.len() >= 2
-        && (frame[1] == Kind::Append.number() || frame[1] == Kind::Install.number())
+    frame.len() >= 2 && (frame[1] == Kind::Append.number() || frame[1] == Kind::Install.number())
 }
 
 impl ServerNode {
     /// The actor that this server is, with nothing waiting.
     pub fn new(alloc: Global, server: Server, timers: ServerTimers) -> ServerNode
         ensures { result ≡ record {
-            server = server;
-            workers = record { waiting = []; plans = [] };
-            timers = timers;
-            asked = [];
+          server = server;
+          workers = record { waiting = []; plans = [] };
+          timers = timers;
+          asked = [];
         } }
     {
         ServerNode {
@@ -176,13 +175,7 @@ impl ServerNode {
             change,
             outbox,
         )?;
-        do_work(
-            alloc,
-            &mut self.server,
-            &mut self.workers,
-            change,
-            outbox,
-        )?;
+        do_work(alloc, &mut self.server, &mut self.workers, change, outbox)?;
         do_beat(
             alloc,
             &mut self.server,
