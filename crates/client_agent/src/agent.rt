@@ -1,4 +1,4 @@
-ghost use Rattle.std.specs.Prelude.{◌≡◌, ◌⊎◌, ◌≢◌, true, is_some, None, Some, option_map, OnOk, OnErr, IfOk, IfErr, IfSome, List};
+ghost use Rattle.std.specs.Prelude.{◌≡◌, ◌≢◌, true, is_some, None, Some, option_map, OnOk, OnErr, IfOk, IfErr, IfSome, List};
 ghost use Rattle.rows.specs.declared.actor.Actor.TheVariants as actors;
 ghost use Rattle.rows.specs.declared.refusal.Refusal.TheVariants as refusals;
 ghost use Rattle.rows.specs.GroupSizes.{IsGroup};
@@ -13,6 +13,8 @@ ghost use Rattle.client_agent.specs.Steps.{AgentSteps, AgentTakes};
 ghost use Rattle.client_agent.specs.Refusals.{client_frame_refusal, misdirected_to_client, agent_refusal, IsAgentRefused, AgentRefusalLeaves};
 ghost use Rattle.client_agent.specs.Inner.Asking.{handing_of};
 ghost use Rattle.client_agent.specs.Inner.Received.{IsReceived, TakesReceived};
+
+mod restarting;
 
 use crate::asking::{Asked, client_of, send_asked};
 use crate::life::Life;
@@ -74,41 +76,6 @@ impl Agent {
             node,
             size: n,
             started: Started::none(alloc),
-            life: Some(Life::new(alloc)),
-        })
-    }
-
-    /// The client of this node that ever started just these allocations, in this order, in a group
-    /// of `n` servers: up, and nothing runs. So a process starts again by what it stored.
-    ///
-    /// It is refused with `OutOfRange` where `n` is not 3 or 5 or an id stands there twice, and with
-    /// `NoMemory`.
-    pub fn restart(
-        alloc: Global,
-        node: NodeSpec,
-        n: usize,
-        started: &[AllocId],
-    ) -> Result<Agent, Refusal>
-        ensures ok { IfOk result (λ a. a ≡ record {
-          size = n;
-          client = record (agent_of node) { started = started.now };
-        }) }
-        ensures lawful { OnOk result (IsGroup n × AreDistinct started.now) }
-        ensures err { IfErr result (λ cause. (cause ≡ refusals.NoMemory)
-            ⊎ ((cause ≡ refusals.OutOfRange) × (IsGroup n → AreDistinct started.now → ⊥))) }
-    {
-        if !is_group_size(n) {
-            return Err(Refusal::OutOfRange);
-        }
-        let started = match Started::of(alloc, started) {
-            Ok(started) => started,
-            Err(cause) => return Err(cause),
-        };
-        Ok(Agent {
-            alloc,
-            node,
-            size: n,
-            started,
             life: Some(Life::new(alloc)),
         })
     }
