@@ -1,1 +1,6 @@
-pub mod Sending
+pub mod Starting
+pub mod Reading
+pub mod Handing
+pub mod Telling
+pub mod Changing
+pub mod Turning

@@ -1,11 +1,12 @@
 -- How the ids that a client ever started are kept in a journal: all of them first, and then those
 -- that it started since.
-use Rattle.std.specs.Prelude.{◌≡◌, ◌≤◌, ℕ, ◌^◌, ◌-◌, Option, Some, None, Result, Ok, Err, List, ◌++◌, length, take, option_map}
+use Rattle.std.specs.Prelude.{◌≡◌, ◌≤◌, ◌-◌, ◌^◌, ⊤, ℕ, Option, Some, None, Result, Ok, Err, List, ◌++◌, length, take, option_map}
 use Rattle.fields_model.specs.Format.{list, whole}
 use Rattle.fields_model.specs.Ids.{allocation_id}
 use Rattle.rows.specs.declared.allocation.AllocId.{AllocId}
 use Rattle.journal.specs.Replays.{Replay}
-use Rattle.client_node.specs.declared.node.Kept.{Kept}
+use Rattle.client_node.specs.declared.changes.IdsChange.{IdsChange}
+use Rattle.client_node.specs.declared.changes.IdsChange.TheVariants as changes
 
 abbrev pub ids_read : Result (List AllocId) ℕ → Option (List AllocId)
 ids_read (Ok ids) = Some ids
@@ -21,10 +22,8 @@ started_replay = record {
   after = λ ids payload. option_map (λ more. ids ++ more) (ids_in payload);
 }
 
--- nothing led from the first of these to the other; or so many stayed, and others came
-abbrev pub StaysThen : Option ℕ → List AllocId → List AllocId → Type 0
-StaysThen None first now = first ≡ now
-StaysThen (Some count) first now = (count ≤ length now) × (first ≡ take count now)
-
-abbrev pub LeadsIds : Kept → List AllocId → List AllocId → Type 0
-LeadsIds kept first now = StaysThen kept.count first now
+-- this led from the first of these to the other
+abbrev pub LeadsIds : IdsChange → List AllocId → List AllocId → Type 0
+LeadsIds changes.Nothing first now = first ≡ now
+LeadsIds (changes.Behind count) first now = (count ≤ length now) × (first ≡ take count now)
+LeadsIds changes.Whole first now = ⊤

@@ -1,34 +1,26 @@
 //! The agent of one node as an actor. What it is asked, and what it says, are items of bytes.
-ghost use Rattle.std.specs.Prelude.{◌≡◌, ◌≤◌, ◌++◌, ◌∷◌, [], ℕ, List, IfOk, IfSome, OnOk, Some, length, map, take};
-ghost use Rattle.rows.specs.GroupSizes.{IsGroup};
-ghost use Rattle.wire.specs.Frames.{Frame};
+ghost use Rattle.std.specs.Prelude.{◌≡◌, ◌≤◌, ◌++◌, false, true, ℕ, List, IfOk, OnOk, Some, length, map};
+ghost use Rattle.rows.specs.declared.allocation.AllocId.{AllocId as AnyAllocId};
 ghost use Rattle.group_model.specs.Agents.{agent_of};
-ghost use Rattle.group_inputs.specs.declared.client_input.ClientInput.{ClientInput as AnyInput};
-ghost use Rattle.group_inputs.specs.declared.client_input.ClientInput.TheVariants as inputs;
-ghost use Rattle.client_agent.specs.AgentView.{AgentView};
-ghost use Rattle.client_agent.specs.Capacity.{AreDistinct};
-ghost use Rattle.actor.specs.Refusals.{ClientRefuses};
-ghost use Rattle.journal.specs.Events.{IoEvent, AreOutputs, LineReported};
+ghost use Rattle.journal.specs.Events.{IoEvent, AreOutputs};
 ghost use Rattle.journal.specs.Replays.{Replay};
 ghost use Rattle.journal.specs.Savings.{output_event, IsSaving};
-ghost use Rattle.timers.specs.ClientTimes.{ClientTimes, client_due};
+ghost use Rattle.client_node.specs.Items.{IsEnd, IsTime, is_frame};
 ghost use Rattle.client_node.specs.Laws.Outputs.{outputs_alone};
 ghost use Rattle.client_node.specs.Records.{LeadsIds, ids_in, started_replay};
-ghost use Rattle.client_node.specs.Items.{IsFrame, IsTime};
-ghost use Rattle.client_node.specs.Turns.{AreDue, Hands, HandsAll, NodeView, Turn, WentBy, asks_due, runs_in, said_between, sends, started_by};
-ghost use Rattle.client_node.specs.declared.fault.Fault.TheVariants as faults;
+ghost use Rattle.client_node.specs.Turns.{NodeView, Turn, WentBy, started_by};
 
+use crate::changes::{IdsChange, change_between, joined};
 use crate::fault::Fault;
+use crate::handing::{ask_each, bring, hand};
 use crate::items::{is_frame, read_end, read_time};
-use crate::telling::{ids_of, put_words};
-use actor::{Stepped, deliver_to_client, hand_client};
+use crate::telling::{put_turn, running_ids, started_ids};
 use client_agent::Agent;
 use fields::write_long_counted;
 use group_inputs::ClientInput;
-use journal::{Actor, Out, Saving, item_of};
-use rows::{AllocId, ClientId, NoMemory, NodeSpec, Refusal, ServerId};
+use journal::{Actor, Out, Saving};
+use rows::{AllocId, ClientId, NoMemory, NodeSpec, Refusal, Sequence, ServerId};
 use std::alloc::Global;
-use std::io::Write;
 use std::marker::Model;
 use timers::{ClientDue, ClientTimers};
 use wire::{Frames, Kind};
@@ -36,13 +28,8 @@ use wire::{Frames, Kind};
 /// After so many turns of asking without a list, all servers are asked again.
 const MOST_UNANSWERED: u8 = 3;
 
-/// How many of the ids that were ever started stay, where others came behind them in a batch.
-#[derive(Clone, Copy, Debug, Drop)]
-pub struct Kept {
-    pub count: Option<usize>,
-}
-
-/// The agent of a node as an actor: with its timers, and which server answered it last.
+/// The agent of a node as an actor: with its timers, how many servers its group has, and which of
+/// them listed last, if one did lately.
 #[derive(Drop)]
 pub struct ClientNode {
     agent: Agent,
@@ -53,111 +40,14 @@ pub struct ClientNode {
 }
 
 impl Model for ClientNode {
-    ghost use Rattle.client_node.specs.Items.{IsFrame, IsTime};
+    ghost use Rattle.rows.specs.GroupSizes.{IsGroup};
     ghost use Rattle.client_node.specs.Turns.{NodeView};
 
     ghost Value = { NodeView };
 
     ghost view = { λ n. record { agent = n.agent; timers = n.timers } };
-}
 
-/// An agent again, by what it ever started.
-fn agent_again(
-    alloc: Global,
-    node: NodeSpec,
-    size: usize,
-    started: &[AllocId],
-) -> Result<Agent, Refusal>
-    ensures ok { IfOk result (λ a. a ≡ record {
-      size = size;
-      client = record (agent_of node) { started = started.now };
-    }) }
-    ensures lawful { OnOk result (IsGroup size × AreDistinct started.now) }
-{
-    Agent::restart(alloc, node, size, started)
-}
-
-/// Hands the agent an input. A refusal is answered; want of memory ends the process.
-fn hand(
-    agent: &mut Agent,
-    input: ClientInput,
-    frames: &mut Frames,
-) -> Result<Option<Refusal>, NoMemory>
-    ensures hands { OnOk result (Hands agent.old input agent.new frames.old frames.new) }
-    ensures refused { IfOk result (λ cause. IfSome cause (ClientRefuses agent.old input)) }
-{
-    match hand_client(agent, input, frames) {
-        Ok(Stepped::Taken) => Ok(None),
-        Ok(Stepped::Crashed) => Err(NoMemory),
-        Err(Refusal::NoMemory) => Err(NoMemory),
-        Err(refusal) => Ok(Some(refusal)),
-    }
-}
-
-/// The same of a frame: all of its bytes.
-fn bring(agent: &mut Agent, frame: &[u8], frames: &mut Frames) -> Result<Option<Refusal>, NoMemory>
-    ensures hands { OnOk result
-        (Hands agent.old (inputs.Frame frame.now) agent.new frames.old frames.new) }
-    ensures refused { IfOk result (λ cause.
-        IfSome cause (ClientRefuses agent.old (inputs.Frame frame.now))) }
-{
-    match deliver_to_client(agent, frame, frames) {
-        Ok(Stepped::Taken) => Ok(None),
-        Ok(Stepped::Crashed) => Err(NoMemory),
-        Err(Refusal::NoMemory) => Err(NoMemory),
-        Err(refusal) => Ok(Some(refusal)),
-    }
-}
-
-/// What is due, as an input, for a server.
-fn input_for(due: ClientDue, to: ServerId) -> ClientInput
-    ensures { result ≡ asks_due due to }
-{
-    match due {
-        ClientDue::Register => ClientInput::Register(to),
-        ClientDue::Ping => ClientInput::Ping(to),
-        ClientDue::Pull => ClientInput::Pull(to),
-    }
-}
-
-/// A refusal as a line to the standard error.
-fn put_line(alloc: Global, cause: Refusal, outs: &mut Vec<Out>) -> Result<(), NoMemory>
-    ensures { OnOk result ((line : List ℕ) × (map output_event outs.new.items
-        ≡ map output_event outs.old.items ++ LineReported line ∷ [])) }
-{
-    let mut line = Vec::new(alloc);
-    let number = cause.number();
-    match writeln!(line, "refused {number}: {cause}") {
-        Ok(()) => {}
-        Err(_) => return Err(NoMemory),
-    }
-    outs.push(Out::Line(line))?;
-    Ok(())
-}
-
-/// Puts each frame, as an item, behind what is sent and reported.
-fn put_frames(alloc: Global, frames: &Frames, outs: &mut Vec<Out>) -> Result<(), NoMemory>
-    ensures { OnOk result (map output_event outs.new.items
-        ≡ map output_event outs.old.items ++ sends frames.now) }
-{
-    for place in 0..frames.len() {
-        let Some(frame) = frames.get(place) else {
-            unreachable!()
-        };
-        outs.push(Out::Item(item_of(alloc, frame.bytes())?))?;
-    }
-    Ok(())
-}
-
-/// Puts what is answered behind what is sent.
-fn put_all(answers: Vec<Out>, outs: &mut Vec<Out>) -> Result<(), NoMemory>
-    ensures { OnOk result (map output_event outs.new.items
-        ≡ map output_event outs.old.items ++ map output_event answers.items) }
-{
-    for answer in answers {
-        outs.push(answer)?;
-    }
-    Ok(())
+    ghost invariant = { λ n. IsGroup n.size };
 }
 
 /// Puts a count of four bytes and these ids to the end. There is no memory for more of them than
@@ -180,6 +70,16 @@ fn lister(frame: &[u8]) -> Option<ServerId> {
     ServerId::from_number(frame[2])
 }
 
+/// Whether a list is to be asked for.
+fn asks_list(due: &[ClientDue]) -> bool {
+    for what in due {
+        if let ClientDue::Pull = what {
+            return true;
+        }
+    }
+    false
+}
+
 impl ClientNode {
     /// The actor of this node, which ever started just these allocations.
     pub fn begin(
@@ -195,7 +95,7 @@ impl ClientNode {
               client = record (agent_of node) { started = started.now };
             })) }
     {
-        match agent_again(alloc, node, size, started) {
+        match Agent::restart(alloc, node, size, started) {
             Ok(agent) => Ok(ClientNode {
                 agent,
                 timers,
@@ -219,120 +119,93 @@ impl ClientNode {
         }
     }
 
-    /// A frame is handed to the agent. One that it refuses is told to the standard error.
+    /// A frame is handed to the agent. The server that sent a list is asked from then on.
     fn take_frame(
         &mut self,
-        alloc: Global,
         item: &[u8],
         frames: &mut Frames,
-        lines: &mut Vec<Out>,
-    ) -> Result<(), NoMemory>
-        requires { IsFrame item.now }
-        ensures { OnOk result (WentBy item.now self.old self.new frames.old frames.new
-            lines.old.items lines.new.items) }
+    ) -> Result<Option<Refusal>, NoMemory>
+        requires { is_frame item.now ≡ true }
+        ensures { IfOk result (WentBy item.now self.old self.new frames.old frames.new) }
     {
-        match bring(&mut self.agent, item, frames)? {
-            Some(cause) => put_line(alloc, cause, lines),
-            None => {
-                if let Some(server) = lister(item) {
-                    self.leader = Some(server);
-                    self.unanswered = 0;
-                }
-                Ok(())
+        let told = bring(&mut self.agent, item, frames)?;
+        if told.is_none() {
+            if let Some(server) = lister(item) {
+                self.leader = Some(server);
+                self.unanswered = 0;
             }
         }
+        Ok(told)
     }
 
-    /// What is due is asked of the server that answered last, or of all.
-    fn ask(&mut self, due: ClientDue, frames: &mut Frames) -> Result<(), NoMemory>
-        ensures timers { self.new.timers ≡ self.old.timers }
-        ensures all { OnOk result ((handed : List AnyInput) × AreDue (due ∷ []) handed
-            × HandsAll self.old.agent frames.old handed self.new.agent frames.new) }
-    {
-        if let Some(leader) = self.leader {
-            hand(&mut self.agent, input_for(due, leader), frames)?;
-            return Ok(());
-        }
-        for place in 0..self.size {
-            if let Some(server) = ServerId::from_position(place) {
-                hand(&mut self.agent, input_for(due, server), frames)?;
-            }
-        }
-        Ok(())
-    }
-
-    /// Time passes: what is due is asked.
+    /// Time passes: what is due is asked of the server that listed last, or of all.
     fn pass_time(
         &mut self,
         alloc: Global,
         ms: u32,
         item: &[u8],
         frames: &mut Frames,
-        lines: &mut Vec<Out>,
-    ) -> Result<(), NoMemory>
+    ) -> Result<Option<Refusal>, NoMemory>
         requires { IsTime item.now ms }
-        ensures { OnOk result (WentBy item.now self.old self.new frames.old frames.new
-            lines.old.items lines.new.items) }
+        ensures { IfOk result (WentBy item.now self.old self.new frames.old frames.new) }
     {
         let due = self.timers.pass(alloc, ms)?;
-        for what in due.as_slice() {
-            if let ClientDue::Pull = what {
-                self.unanswered = self.unanswered.saturating_add(1);
-                if self.unanswered > MOST_UNANSWERED {
-                    self.leader = None;
-                }
+        if asks_list(due.as_slice()) {
+            self.unanswered = self.unanswered.saturating_add(1);
+            if self.unanswered > MOST_UNANSWERED {
+                self.leader = None;
             }
-            self.ask(*what, frames)?;
         }
-        Ok(())
+        ask_each(
+            &mut self.agent,
+            due.as_slice(),
+            self.leader,
+            self.size,
+            frames,
+        )?;
+        Ok(None)
     }
 
-    /// An allocation ended, as whoever ran it says.
+    /// An allocation ended, as whoever ran it says; or the item is none that is known.
     fn take_end(
         &mut self,
         alloc: Global,
         item: &[u8],
         frames: &mut Frames,
-        lines: &mut Vec<Out>,
-    ) -> Result<(), NoMemory>
-        requires { IsFrame item.now → ⊥ }
-        ensures { OnOk result (WentBy item.now self.old self.new frames.old frames.new
-            lines.old.items lines.new.items) }
+    ) -> Result<Option<Refusal>, NoMemory>
+        requires no_frame { is_frame item.now ≡ false }
+        requires no_time { (ms : ℕ) → IsTime item.now ms → ⊥ }
+        ensures { IfOk result (WentBy item.now self.old self.new frames.old frames.new) }
     {
-        let Some((id, well)) = read_end(alloc, self.me(), item)? else {
-            return put_line(alloc, Refusal::Frame(0), lines);
-        };
-        match hand(&mut self.agent, ClientInput::End(id, well), frames)? {
-            Some(cause) => put_line(alloc, cause, lines),
-            None => Ok(()),
+        match read_end(alloc, self.me(), item)? {
+            Some((id, well)) => hand(&mut self.agent, ClientInput::End(id, well), frames),
+            None => Ok(Some(Refusal::Frame(0))),
         }
     }
 
-    /// One item, by its kind.
+    /// One item, by its kind. It answers what it refuses of it.
     fn take_item(
         &mut self,
         alloc: Global,
         item: &[u8],
         frames: &mut Frames,
-        lines: &mut Vec<Out>,
-    ) -> Result<(), NoMemory>
-        ensures { OnOk result (WentBy item.now self.old self.new frames.old frames.new
-            lines.old.items lines.new.items) }
+    ) -> Result<Option<Refusal>, NoMemory>
+        ensures { IfOk result (WentBy item.now self.old self.new frames.old frames.new) }
     {
         if is_frame(item) {
-            return self.take_frame(alloc, item, frames, lines);
+            return self.take_frame(item, frames);
         }
         match read_time(item) {
-            Some(ms) => self.pass_time(alloc, ms, item, frames, lines),
-            None => self.take_end(alloc, item, frames, lines),
+            Some(ms) => self.pass_time(alloc, ms, item, frames),
+            None => self.take_end(alloc, item, frames),
         }
     }
 }
 
 impl Actor for ClientNode {
-    type Part = Vec<AllocId>;
+    type Part = Sequence<AllocId>;
 
-    type Change = Kept;
+    type Change = IdsChange;
 
     ghost replay = { started_replay };
 
@@ -344,41 +217,39 @@ impl Actor for ClientNode {
 
     ghost outputs = { outputs_alone };
 
-    fn unchanged() -> Kept {
-        Kept { count: None }
+    fn unchanged() -> IdsChange {
+        IdsChange::Nothing
     }
 
     fn take(
         &mut self,
         alloc: Global,
         item: &[u8],
-        change: &mut Kept,
+        change: &mut IdsChange,
         outs: &mut Vec<Out>,
     ) -> Result<(), NoMemory> {
-        let ran = ids_of(alloc, self.agent.running())?;
-        let count = self.agent.started().len();
+        let started = started_ids(alloc, &self.agent)?;
+        let ran = running_ids(alloc, &self.agent)?;
         let mut frames = Frames::new(alloc);
-        let mut lines = Vec::new(alloc);
-        self.take_item(alloc, item, &mut frames, &mut lines)?;
-        if change.count.is_none() && self.agent.started().len() != count {
-            change.count = Some(count);
-        }
-        let runs = ids_of(alloc, self.agent.running())?;
-        put_frames(alloc, &frames, outs)?;
-        put_words(alloc, "stop", ran.as_slice(), runs.as_slice(), outs)?;
-        put_words(alloc, "start", runs.as_slice(), ran.as_slice(), outs)?;
-        put_all(lines, outs)
+        let told = self.take_item(alloc, item, &mut frames)?;
+        let since = change_between(started.as_slice(), self.agent.started());
+        *change = joined(*change, since);
+        put_turn(alloc, ran.as_slice(), &self.agent, &frames, told, outs)
     }
 
-    fn save(&self, change: &Kept, out: &mut Vec<u8>) -> Result<Saving, NoMemory> {
+    fn save(&self, change: &IdsChange, out: &mut Vec<u8>) -> Result<Saving, NoMemory> {
         let started = self.agent.started();
-        match change.count {
-            None => Ok(Saving::Nothing),
-            Some(count) if count <= started.len() => {
+        match change {
+            IdsChange::Nothing => Ok(Saving::Nothing),
+            IdsChange::Whole => Ok(Saving::Whole),
+            IdsChange::Behind(count) => {
+                let count = *count;
+                if count > started.len() {
+                    return Ok(Saving::Whole);
+                }
                 put_ids(&started[count..], out)?;
                 Ok(Saving::Change)
             }
-            Some(_) => Ok(Saving::Whole),
         }
     }
 

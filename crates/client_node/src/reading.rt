@@ -1,9 +1,10 @@
 //! What a journal has of what a client ever started.
-ghost use Rattle.std.specs.Prelude.{◌≡◌, ◌≤◌, ◌++◌, ℕ, List, None, Some, IfErr, IfOk, OnOk, option_map, drop, length};
+ghost use Rattle.std.specs.Prelude.{◌≡◌, ◌≤◌, ◌-◌, ◌^◌, ℕ, None, Some, IfErr, IfOk, OnOk, option_map, drop, length};
 ghost use Rattle.fields_model.specs.Format.{Gives, list, whole};
 ghost use Rattle.fields_model.specs.Ids.{allocation_id};
 ghost use Rattle.client_node.specs.Records.{ids_in, started_replay};
-ghost use Rattle.client_node.specs.Starts.{IsStored, ReplaysTo};
+ghost use Rattle.client_node.specs.Starts.{FaultAt, IsAnothers, IsBadStore, IsStored, ReplaysTo};
+ghost use Rattle.client_node.specs.declared.fault.Fault.TheVariants as faults;
 
 use crate::fault::Fault;
 use fields::read_long_list;
@@ -12,7 +13,7 @@ use rows::{AllocId, Refusal, Sequence, Version};
 use std::alloc::Global;
 
 /// The ids of which a payload is all.
-fn ids_in(alloc: Global, payload: &[u8]) -> Result<Sequence<AllocId>, Refusal>
+fn read_ids(alloc: Global, payload: &[u8]) -> Result<Sequence<AllocId>, Refusal>
     ensures { Gives result (whole (list 4 (2 ^ 32 - 1) allocation_id) payload.now) }
 {
     let (ids, end) = read_long_list(Version::newest(), alloc, payload, 0, u32::MAX)?;
@@ -24,13 +25,36 @@ fn ids_in(alloc: Global, payload: &[u8]) -> Result<Sequence<AllocId>, Refusal>
 }
 
 /// The ids of the record at an offset.
-fn ids_at(alloc: Global, payload: &[u8], at: usize) -> Result<Sequence<AllocId>, Fault>
-    ensures { IfOk result (λ ids. ids_in payload.now ≡ Some ids) }
+fn ids_at(alloc: Global, payload: &[u8], at: usize) -> Result<Vec<AllocId>, Fault>
+    ensures whole { IfOk result (λ ids. ids_in payload.now ≡ Some ids.items) }
+    ensures fault { IfErr result (λ fault. (place : ℕ) → fault ≡ faults.BadStore place →
+        (place ≡ at) × (ids_in payload.now ≡ None)) }
+    ensures own { IfErr result (λ fault. fault ≡ faults.Another → ⊥) }
 {
-    match ids_in(alloc, payload) {
-        Ok(ids) => Ok(ids),
-        Err(Refusal::NoMemory) => Err(Fault::NoMemory),
-        Err(_) => Err(Fault::BadStore(at)),
+    match read_ids(alloc, payload) {
+        Ok(ids) => Ok(ids.into_vec()),
+        Err(Refusal::Frame(_)) => Err(Fault::BadStore(at)),
+        Err(_) => Err(Fault::NoMemory),
+    }
+}
+
+/// The ids with those of one record more; the record stands at an offset.
+fn follow(
+    alloc: Global,
+    ids: &mut Vec<AllocId>,
+    payload: &[u8],
+    at: usize,
+) -> Result<(), Fault>
+    ensures after { OnOk result
+        (started_replay.after ids.old.items payload.now ≡ Some ids.new.items) }
+    ensures fault { IfErr result (λ fault. (place : ℕ) → fault ≡ faults.BadStore place →
+        (place ≡ at) × (started_replay.after ids.old.items payload.now ≡ None)) }
+    ensures own { IfErr result (λ fault. fault ≡ faults.Another → ⊥) }
+{
+    let more = ids_at(alloc, payload, at)?;
+    match ids.extend_from_slice(more.as_slice()) {
+        Ok(()) => Ok(()),
+        Err(_) => Err(Fault::NoMemory),
     }
 }
 
@@ -38,16 +62,18 @@ fn ids_at(alloc: Global, payload: &[u8], at: usize) -> Result<Sequence<AllocId>,
 /// being written may be torn, and is left out; any other fault is at the offset of its record.
 fn from_journal(alloc: Global, bytes: &[u8], start: usize) -> Result<Vec<AllocId>, Fault>
     requires { start ≤ length bytes.now }
-    ensures { IfOk result (λ ids. ReplaysTo (drop start bytes.now) ids.items) }
+    ensures kept { IfOk result (λ ids. ReplaysTo (drop start bytes.now) ids.items) }
+    ensures fault { IfErr result (λ fault. (place : ℕ) → fault ≡ faults.BadStore place →
+        FaultAt bytes.now start place) }
+    ensures own { IfErr result (λ fault. fault ≡ faults.Another → ⊥) }
 {
     let Some((payload, next)) = next_record(bytes, start) else {
         return Err(Fault::BadStore(start));
     };
-    let mut all = ids_at(alloc, payload, start)?.into_vec();
+    let mut all = ids_at(alloc, payload, start)?;
     let mut at = next;
     'records: while let Some((payload, next)) = next_record(bytes, at) {
-        let more = ids_at(alloc, payload, at)?;
-        all.extend_from_slice(more.as_slice())?;
+        follow(alloc, &mut all, payload, at)?;
         at = next;
     }
     if may_be_torn(bytes, at) {
@@ -64,8 +90,12 @@ pub fn started_of(
     header: &[u8],
     stored: Option<&[u8]>,
 ) -> Result<Vec<AllocId>, Fault>
-    ensures { IfOk result (λ ids. IsStored header.now
+    ensures stored { IfOk result (λ ids. IsStored header.now
         (option_map (λ text. text.now) stored.entry) ids.items) }
+    ensures fault { IfErr result (λ fault. (place : ℕ) → fault ≡ faults.BadStore place →
+        IsBadStore header.now (option_map (λ text. text.now) stored.entry) place) }
+    ensures another { IfErr result (λ fault. fault ≡ faults.Another →
+        IsAnothers header.now (option_map (λ text. text.now) stored.entry)) }
 {
     let Some(bytes) = stored else {
         return Ok(Vec::new(alloc));

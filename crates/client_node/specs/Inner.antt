@@ -1,0 +1,3 @@
+-- Words of private contracts.
+pub mod Outcomes
+pub mod Joined
