@@ -1,11 +1,12 @@
 -- What was changed of the ids that were ever started.
-use Rattle.std.proofs.Common.{◌≡◌, ◌∙◌, ◌+◌, ◌-◌, ◌^◌, ◌<◌, ◌≤◌, ◌++◌, ◌∷◌, [], ℕ, Bool, true, false, List, Option, Some, None, ap, subst, sym, arith, length, take, drop, get_or, take_all, nat_eq}
+use Rattle.std.proofs.Common.{◌≡◌, ◌∙◌, ◌+◌, ◌-◌, ◌^◌, ◌<◌, ◌≤◌, ◌++◌, ◌∷◌, [], ℕ, Bool, true, false, List, Option, Some, None, Result, Ok, Err, OnOk, ap, subst, sym, arith, length, take, drop, get_or, take_all, nat_eq}
 use Rattle.std.specs.Prelude.{if◌then◌else◌, option_map}
 use Rattle.std.proofs.lemmas.List.{take-append-drop, take-take, take_more, length-take-le}
 use Rattle.std.proofs.lemmas.Grind.{common_steps}
 use Rattle.rows.specs.declared.allocation.AllocId.{AllocId}
 use Rattle.fsm_model.specs.Words.{same_alloc}
-use Rattle.fields_model.specs.Format.{list, whole}
+use Rattle.rows.specs.declared.refusal.NoMemory.{NoMemory}
+use Rattle.fields_model.specs.Format.{Writes, list, whole}
 use Rattle.fields_model.specs.Ids.{allocation_id}
 use Rattle.fields_model.proofs.FormatLaws.{list_lawful}
 use Rattle.fields_model.proofs.IdLaws.{allocation_id_lawful}
@@ -55,6 +56,11 @@ joined_leads (changes.Behind i) changes.Whole first mid now one two = tt
 -- the text of some ids reads as these
 pub ids_again : (ids : List AllocId) → (list 4 (2 ^ 32 - 1) allocation_id).Fits ids → ids_in ((list 4 (2 ^ 32 - 1) allocation_id).text ids) ≡ Some ids
 ids_again ids fits = ap ids_read (whole_only (list 4 (2 ^ 32 - 1) allocation_id) (list_lawful 4 (2 ^ 32 - 1) allocation_id (omega arith) (omega arith) allocation_id_lawful) ids fits)
+
+pub ids_written : (ids : List AllocId) (r : Result (Unit {0}) NoMemory) (old new : List ℕ) → Writes (list 4 (2 ^ 32 - 1) allocation_id) ids r old new
+    → OnOk r ((payload : List ℕ) × (new ≡ old ++ payload) × (ids_in payload ≡ Some ids))
+ids_written ids (Ok _) old new wrote = ((list 4 (2 ^ 32 - 1) allocation_id).text ids, wrote.1, ids_again ids wrote.0)
+ids_written ids (Err e) old new wrote = tt
 
 -- the ids behind those that stay make all of them again
 pub behind_again : (count : ℕ) (first now : List AllocId) (payload : List ℕ) → first ≡ take count now → ids_in payload ≡ Some (drop count now) → started_replay.after first payload ≡ Some now

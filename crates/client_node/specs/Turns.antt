@@ -79,10 +79,13 @@ runs_in a = running_ids a.client.life
 abbrev pub is_not_among : List AllocId → AllocId → Bool
 is_not_among ids id = not (list_any (same_alloc id) ids)
 
--- `start ID` or `stop ID`, as an item of the output: an id is an index and a place, with a dot
--- between
+-- `WORD INDEX.PLACE`
+abbrev pub word_text : List ℕ → AllocId → List ℕ
+word_text word id = word ++ (codes " " ++ (decimal id.index ++ (codes "." ++ decimal id.slot)))
+
+-- the same as an item of the output
 abbrev pub said_of : List ℕ → AllocId → IoEvent
-said_of word id = BytesSent (sized (word ++ (codes " " ++ (decimal id.index ++ (codes "." ++ decimal id.slot)))))
+said_of word id = BytesSent (sized (word_text word id))
 
 -- `stop` of each that ran and does not run now, and `start` of each that runs now and did not run
 abbrev pub said_between : AgentView → AgentView → List IoEvent

@@ -13,7 +13,7 @@ use timers::ClientDue;
 use wire::Frames;
 
 /// Whether it is want of memory.
-fn is_memory(refusal: &Refusal) -> bool
+pub fn is_memory(refusal: &Refusal) -> bool
     ensures { result ≡ is_memory refusal.now }
 {
     match refusal {

@@ -4,11 +4,12 @@ ghost use Rattle.fields_model.specs.Format.{GivesExactly, whole};
 ghost use Rattle.fields_model.specs.Fields.{u32};
 ghost use Rattle.rows.specs.declared.allocation.AllocId.{AllocId as AnyAllocId};
 ghost use Rattle.group_model.specs.Agents.{End};
-ghost use Rattle.group_model.specs.Worlds.{AtClient, Event as AnyEvent};
+ghost use Rattle.group_model.specs.Worlds.{AtClient};
 ghost use Rattle.group_inputs.specs.Events.{client_input, group_event};
-ghost use Rattle.event_texts.specs.EventLines.{IsEventLine};
+ghost use Rattle.client_node.specs.Inner.Lines.{IsReadAs};
 ghost use Rattle.client_node.specs.Items.{IsEnd, IsTime, begins_with, is_frame};
 
+use crate::handing::is_memory;
 use event_texts::read_event;
 use fields::read_u32;
 use group_inputs::{ClientInput, Event};
@@ -64,18 +65,27 @@ pub fn read_time(item: &[u8]) -> Option<u32>
 }
 
 /// The event that a line says; none where it is no event's line.
-fn read_line(alloc: Global, line: &[u8]) -> Result<Option<Event>, NoMemory>
-    ensures { IfOk result (λ read. MatchOption read
-        ((event : AnyEvent) → IsEventLine event line.now → ⊥)
-        (λ found. IsEventLine (group_event found) line.now
-            × ((event : AnyEvent) → IsEventLine event line.now → group_event found ≡ event))) }
+fn read_text(alloc: Global, line: &str) -> Result<Option<Event>, NoMemory>
+    ensures { IfOk result (IsReadAs line.now) }
 {
-    let Ok(text) = str::from_utf8(line) else {
-        return Ok(None);
-    };
-    match read_event(alloc, text) {
+    match read_event(alloc, line) {
         Ok(event) => Ok(Some(event)),
-        Err(Refusal::NoMemory) => Err(NoMemory),
+        Err(refusal) => {
+            if is_memory(&refusal) {
+                Err(NoMemory)
+            } else {
+                Ok(None)
+            }
+        }
+    }
+}
+
+/// The same of bytes.
+fn read_line(alloc: Global, line: &[u8]) -> Result<Option<Event>, NoMemory>
+    ensures { IfOk result (IsReadAs line.now) }
+{
+    match str::from_utf8(line) {
+        Ok(text) => read_text(alloc, text),
         Err(_) => Ok(None),
     }
 }

@@ -3,7 +3,10 @@
 //! file before it says so.
 #![tactic(auto)]
 
+mod asking;
+mod changes;
 mod fault;
+mod handing;
 mod items;
 mod node;
 mod reading;

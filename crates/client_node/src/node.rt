@@ -10,6 +10,7 @@ ghost use Rattle.client_node.specs.Laws.Outputs.{outputs_alone};
 ghost use Rattle.client_node.specs.Records.{LeadsIds, ids_in, started_replay};
 ghost use Rattle.client_node.specs.Turns.{NodeView, Turn, WentBy, started_by};
 
+use crate::asking::Asking;
 use crate::changes::{IdsChange, change_between, joined};
 use crate::fault::Fault;
 use crate::handing::{ask_each, bring, hand};
@@ -19,24 +20,20 @@ use client_agent::Agent;
 use fields::write_long_counted;
 use group_inputs::ClientInput;
 use journal::{Actor, Out, Saving};
-use rows::{AllocId, ClientId, NoMemory, NodeSpec, Refusal, Sequence, ServerId};
+use rows::{AllocId, ClientId, NoMemory, NodeSpec, Refusal, Sequence};
 use std::alloc::Global;
 use std::marker::Model;
-use timers::{ClientDue, ClientTimers};
-use wire::{Frames, Kind};
-
-/// After so many turns of asking without a list, all servers are asked again.
-const MOST_UNANSWERED: u8 = 3;
+use timers::ClientTimers;
+use wire::Frames;
 
 /// The agent of a node as an actor: with its timers, how many servers its group has, and which of
-/// them listed last, if one did lately.
+/// them it asks.
 #[derive(Drop)]
 pub struct ClientNode {
     agent: Agent,
     timers: ClientTimers,
     size: usize,
-    leader: Option<ServerId>,
-    unanswered: u8,
+    asking: Asking,
 }
 
 impl Model for ClientNode {
@@ -62,24 +59,6 @@ fn put_ids(ids: &[AllocId], out: &mut Vec<u8>) -> Result<(), NoMemory>
     write_long_counted(ids, u32::MAX, out)
 }
 
-/// The server that a frame names as its sender, where the frame is a list of allocations.
-fn lister(frame: &[u8]) -> Option<ServerId> {
-    if frame.len() < 3 || frame[1] != Kind::List.number() {
-        return None;
-    }
-    ServerId::from_number(frame[2])
-}
-
-/// Whether a list is to be asked for.
-fn asks_list(due: &[ClientDue]) -> bool {
-    for what in due {
-        if let ClientDue::Pull = what {
-            return true;
-        }
-    }
-    false
-}
-
 impl ClientNode {
     /// The actor of this node, which ever started just these allocations.
     pub fn begin(
@@ -100,8 +79,7 @@ impl ClientNode {
                 agent,
                 timers,
                 size,
-                leader: None,
-                unanswered: 0,
+                asking: Asking::new(),
             }),
             Err(Refusal::NoMemory) => Err(Fault::NoMemory),
             Err(_) => Err(Fault::Usage),
@@ -129,12 +107,7 @@ impl ClientNode {
         ensures { IfOk result (WentBy item.now self.old self.new frames.old frames.new) }
     {
         let told = bring(&mut self.agent, item, frames)?;
-        if told.is_none() {
-            if let Some(server) = lister(item) {
-                self.leader = Some(server);
-                self.unanswered = 0;
-            }
-        }
+        self.asking.note(&told, item);
         Ok(told)
     }
 
@@ -150,19 +123,8 @@ impl ClientNode {
         ensures { IfOk result (WentBy item.now self.old self.new frames.old frames.new) }
     {
         let due = self.timers.pass(alloc, ms)?;
-        if asks_list(due.as_slice()) {
-            self.unanswered = self.unanswered.saturating_add(1);
-            if self.unanswered > MOST_UNANSWERED {
-                self.leader = None;
-            }
-        }
-        ask_each(
-            &mut self.agent,
-            due.as_slice(),
-            self.leader,
-            self.size,
-            frames,
-        )?;
+        let server = self.asking.server(due.as_slice());
+        ask_each(&mut self.agent, due.as_slice(), server, self.size, frames)?;
         Ok(None)
     }
 

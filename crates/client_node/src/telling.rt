@@ -2,8 +2,10 @@
 ghost use Rattle.std.specs.Prelude.{◌≡◌, ◌↔◌, ◌++◌, ◌∷◌, [], IfOk, IsOk, OnOk, filter, map};
 ghost use Rattle.group_model.specs.Agents.{Running};
 ghost use Rattle.client_agent.specs.AgentView.{AgentView};
+ghost use Rattle.wire.specs.Frames.{sized};
+ghost use Rattle.journal.specs.Events.{BytesSent, LineReported};
 ghost use Rattle.journal.specs.Savings.{output_event};
-ghost use Rattle.client_node.specs.Turns.{is_not_among, lines_of, refused_line, runs_in, said_between, said_of, sends};
+ghost use Rattle.client_node.specs.Turns.{is_not_among, lines_of, refused_line, runs_in, said_between, said_of, sends, word_text};
 
 use client_agent::{Agent, RunningAllocation};
 use fsm_state::is_among;
@@ -54,6 +56,25 @@ pub fn started_ids(alloc: Global, agent: &Agent) -> Result<Vec<AllocId>, NoMemor
     Ok(ids)
 }
 
+/// Puts these bytes, as an item, behind what is sent and reported.
+fn put_item(alloc: Global, bytes: &[u8], outs: &mut Vec<Out>) -> Result<(), NoMemory>
+    ensures { OnOk result (map output_event outs.new.items
+        ≡ map output_event outs.old.items ++ BytesSent (sized bytes.now) ∷ []) }
+{
+    let item = item_of(alloc, bytes)?;
+    outs.push(Out::Item(item))?;
+    Ok(())
+}
+
+/// Puts a line behind what is sent and reported.
+fn put_line(line: Vec<u8>, outs: &mut Vec<Out>) -> Result<(), NoMemory>
+    ensures { OnOk result (map output_event outs.new.items
+        ≡ map output_event outs.old.items ++ LineReported line.items ∷ []) }
+{
+    outs.push(Out::Line(line))?;
+    Ok(())
+}
+
 /// Puts each frame, as an item, behind what is sent and reported.
 fn put_frames(alloc: Global, frames: &Frames, outs: &mut Vec<Out>) -> Result<(), NoMemory>
     ensures { OnOk result (map output_event outs.new.items
@@ -63,9 +84,20 @@ fn put_frames(alloc: Global, frames: &Frames, outs: &mut Vec<Out>) -> Result<(),
         let Some(frame) = frames.get(place) else {
             unreachable!()
         };
-        outs.push(Out::Item(item_of(alloc, frame.bytes())?))?;
+        put_item(alloc, frame.bytes(), outs)?;
     }
     Ok(())
+}
+
+/// `WORD INDEX.PLACE`.
+fn word_text(alloc: Global, word: &str, id: AllocId) -> Result<Vec<u8>, NoMemory>
+    ensures { IfOk result (λ text. text.items ≡ word_text word.now id) }
+{
+    let mut text = Vec::new(alloc);
+    let index = id.index.get();
+    let slot = id.slot.get();
+    written(write!(text, "{word} {index}.{slot}"))?;
+    Ok(text)
 }
 
 /// Puts `WORD INDEX.PLACE`, as an item, behind what is sent and reported.
@@ -73,12 +105,8 @@ fn put_word(alloc: Global, word: &str, id: AllocId, outs: &mut Vec<Out>) -> Resu
     ensures { OnOk result (map output_event outs.new.items
         ≡ map output_event outs.old.items ++ said_of word.now id ∷ []) }
 {
-    let mut text = Vec::new(alloc);
-    let index = id.index.get();
-    let slot = id.slot.get();
-    written(write!(text, "{word} {index}.{slot}"))?;
-    outs.push(Out::Item(item_of(alloc, text.as_slice())?))?;
-    Ok(())
+    let text = word_text(alloc, word, id)?;
+    put_item(alloc, text.as_slice(), outs)
 }
 
 /// The same, where the id is not among these.
@@ -137,8 +165,8 @@ fn put_refusal(
     match told {
         None => Ok(()),
         Some(cause) => {
-            outs.push(Out::Line(refused_line(alloc, cause)?))?;
-            Ok(())
+            let line = refused_line(alloc, cause)?;
+            put_line(line, outs)
         }
     }
 }
