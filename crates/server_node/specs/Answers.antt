@@ -1,5 +1,5 @@
 -- What a server's process answers.
-use Rattle.std.specs.Prelude.{◌≡◌, ◌⊎◌, ℕ, Option, Some, None, List, [], ◌∷◌, ◌++◌, codes, decimal, length}
+use Rattle.std.specs.Prelude.{◌≡◌, ◌⊎◌, ℕ, Option, Some, None, List, [], ◌∷◌, ◌++◌, codes, decimal, length, map}
 use Rattle.std.specs.List.{Contains}
 use Rattle.fields_model.specs.Format.{spelled}
 use Rattle.rows.specs.Requests.{command_of}
@@ -7,7 +7,7 @@ use Rattle.rows.specs.Words.{refusal_words}
 use Rattle.rows.specs.Refusals.{number_of}
 use Rattle.rows.specs.declared.refusal.Refusal.{Refusal}
 use Rattle.rows.specs.declared.request.OperatorRequest.{OperatorRequest}
-use Rattle.wire.specs.Frames.{sized}
+use Rattle.wire.specs.Frames.{Frame, sized}
 use Rattle.raft_core.specs.Tickets.{IsTicket, proposal_status_of}
 use Rattle.raft_core.specs.Steps.{role_of}
 use Rattle.raft_core.specs.declared.role.Role.{Role}
@@ -24,9 +24,16 @@ use Rattle.server_node.specs.declared.asked.Asked.{Asked}
 use Rattle.server_node.specs.Items.{IsLine, IsQuestion, IsRequestLine, IsStatus}
 use Rattle.server_node.specs.Nodes.{NodeView}
 
--- an item of the output: A, the id of who asked, and a text
+-- each frame goes to the output, as an item
+abbrev pub sends : List Frame → List IoEvent
+sends frames = map (λ (frame : Frame). BytesSent (sized frame.bytes)) frames
+
+-- A, the id of who asked, and a text; and as an item of the output
+abbrev pub answer_text : ℕ → List ℕ → List ℕ
+answer_text id text = 65 ∷ (spelled 8 id ++ text)
+
 abbrev pub answer : ℕ → List ℕ → IoEvent
-answer id text = BytesSent (sized (65 ∷ (spelled 8 id ++ text)))
+answer id text = BytesSent (sized (answer_text id text))
 
 -- `WORD INDEX TERM`
 abbrev pub placed_text : List ℕ → ℕ → ℕ → List ℕ
@@ -35,6 +42,9 @@ placed_text word index term = word ++ (codes " " ++ (decimal index ++ (codes " "
 -- `refused N: WORDS`
 abbrev pub refused_text : Refusal → List ℕ
 refused_text cause = codes "refused " ++ (decimal (number_of cause) ++ (codes ": " ++ refusal_words cause))
+
+abbrev pub refused_line : Refusal → List ℕ
+refused_line cause = codes "refused " ++ (decimal (number_of cause) ++ (codes ": " ++ (refusal_words cause ++ codes "\n")))
 
 abbrev pub proposal_word : Option ProposalStatus → List ℕ
 proposal_word None = codes "down"

@@ -6,4 +6,5 @@ pub mod Passing
 pub mod Answers
 pub mod Turns
 pub mod Statuses
+pub mod Inner
 pub mod Laws

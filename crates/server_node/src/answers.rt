@@ -3,9 +3,10 @@ ghost use Rattle.std.specs.Prelude.{◌≡◌, ◌↔◌, ◌∷◌, ◌++◌, [
 ghost use Rattle.raft_core.specs.Steps.{role_of};
 ghost use Rattle.group_model.specs.Servers.{Server as AnyServer};
 ghost use Rattle.server.specs.ServerViews.{RefinesServer};
-ghost use Rattle.journal.specs.Events.{LineReported};
+ghost use Rattle.wire.specs.Frames.{sized};
+ghost use Rattle.journal.specs.Events.{BytesSent, LineReported};
 ghost use Rattle.journal.specs.Savings.{output_event};
-ghost use Rattle.server_node.specs.Answers.{answer, placed_text, refused_text, role_word, proposal_word, status_text};
+ghost use Rattle.server_node.specs.Answers.{answer, answer_text, placed_text, proposal_word, refused_line, refused_text, role_word, sends, status_text};
 
 use fields::write_u64;
 use journal::{Out, item_of};
@@ -15,6 +16,7 @@ use server::Server;
 use std::alloc::Global;
 use std::io;
 use std::io::Write;
+use wire::Frames;
 
 /// What was written to a buffer, or that there was no memory.
 pub fn written(done: io::Result<()>) -> Result<(), NoMemory>
@@ -26,17 +28,48 @@ pub fn written(done: io::Result<()>) -> Result<(), NoMemory>
     }
 }
 
-/// Puts an answer behind what is sent and reported.
-pub fn put_answer(alloc: Global, id: u64, text: &[u8], outs: &mut Vec<Out>) -> Result<(), NoMemory>
+/// Puts these bytes, as an item, behind what is sent and reported.
+fn put_item(alloc: Global, bytes: &[u8], outs: &mut Vec<Out>) -> Result<(), NoMemory>
     ensures { OnOk result (map output_event outs.new.items
-        ≡ map output_event outs.old.items ++ answer id text.now ∷ []) }
+        ≡ map output_event outs.old.items ++ BytesSent (sized bytes.now) ∷ []) }
+{
+    let item = item_of(alloc, bytes)?;
+    outs.push(Out::Item(item))?;
+    Ok(())
+}
+
+/// Puts each frame, as an item, behind what is sent and reported.
+pub fn put_frames(alloc: Global, frames: &Frames, outs: &mut Vec<Out>) -> Result<(), NoMemory>
+    ensures { OnOk result (map output_event outs.new.items
+        ≡ map output_event outs.old.items ++ sends frames.now) }
+{
+    for place in 0..frames.len() {
+        let Some(frame) = frames.get(place) else {
+            unreachable!()
+        };
+        put_item(alloc, frame.bytes(), outs)?;
+    }
+    Ok(())
+}
+
+/// `A`, the id, and a text.
+fn answer_text(alloc: Global, id: u64, text: &[u8]) -> Result<Vec<u8>, NoMemory>
+    ensures { IfOk result (λ bytes. bytes.items ≡ answer_text id text.now) }
 {
     let mut bytes = Vec::new(alloc);
     bytes.push(b'A')?;
     write_u64(&id, &mut bytes)?;
     bytes.extend_from_slice(text)?;
-    outs.push(Out::Item(item_of(alloc, bytes.as_slice())?))?;
-    Ok(())
+    Ok(bytes)
+}
+
+/// Puts an answer behind what is sent and reported.
+pub fn put_answer(alloc: Global, id: u64, text: &[u8], outs: &mut Vec<Out>) -> Result<(), NoMemory>
+    ensures { OnOk result (map output_event outs.new.items
+        ≡ map output_event outs.old.items ++ answer id text.now ∷ []) }
+{
+    let bytes = answer_text(alloc, id, text)?;
+    put_item(alloc, bytes.as_slice(), outs)
 }
 
 /// `WORD INDEX TERM`.
@@ -58,6 +91,16 @@ pub fn refused_text(alloc: Global, cause: Refusal) -> Result<Vec<u8>, NoMemory>
     Ok(text)
 }
 
+/// The same, and the line's end.
+fn refused_line(alloc: Global, cause: Refusal) -> Result<Vec<u8>, NoMemory>
+    ensures { IfOk result (λ line. line.items ≡ refused_line cause) }
+{
+    let mut line = Vec::new(alloc);
+    let number = cause.number();
+    written(writeln!(line, "refused {number}: {cause}"))?;
+    Ok(line)
+}
+
 /// What a server knows of a ticket.
 pub fn proposal_word(standing: Option<ProposalStatus>) -> &'static str
     ensures { result.now ≡ proposal_word standing }
@@ -74,11 +117,10 @@ pub fn proposal_word(standing: Option<ProposalStatus>) -> &'static str
 /// Puts a line to the standard error behind what is sent and reported: `refused N: WORDS`. Want of
 /// memory is none of an item's.
 pub fn put_line(alloc: Global, cause: Refusal, outs: &mut Vec<Out>) -> Result<(), NoMemory>
-    ensures { OnOk result ((line : List ℕ) × (map output_event outs.new.items
-        ≡ map output_event outs.old.items ++ LineReported line ∷ [])) }
+    ensures { OnOk result (map output_event outs.new.items
+        ≡ map output_event outs.old.items ++ LineReported (refused_line cause) ∷ []) }
 {
-    let mut line = refused_text(alloc, cause)?;
-    line.push(b'\n')?;
+    let line = refused_line(alloc, cause)?;
     outs.push(Out::Line(line))?;
     Ok(())
 }

@@ -1,5 +1,5 @@
 //! What is handed to the server, one after the other.
-ghost use Rattle.std.specs.Prelude.{◌≡◌, IfOk, IfSome, MatchOption, OnOk};
+ghost use Rattle.std.specs.Prelude.{◌≡◌, IfOk, IfSome, OnOk};
 ghost use Rattle.rows.specs.declared.command.Command.{Command};
 ghost use Rattle.fsm_model.specs.Words.{State};
 ghost use Rattle.group_inputs.specs.Handings.{FrameBytes, handing};
@@ -8,9 +8,8 @@ ghost use Rattle.raft_core.specs.StoredParts.{stored_part, KeepsLog};
 ghost use Rattle.raft_snapshot.specs.Stored.{Stored};
 ghost use Rattle.raft_records.specs.Records.{IsDelta};
 ghost use Rattle.raft_records.specs.Remembering.{Remembers};
-ghost use Rattle.actor.specs.Answers.{ServerSteps};
-ghost use Rattle.actor.specs.Refusals.{ServerRefuses};
 ghost use Rattle.server_node.specs.Handed.{Hands, IsOwn};
+ghost use Rattle.server_node.specs.Inner.Outcomes.{IsOutcome, is_memory};
 
 use actor::{Stepped, deliver_to_server, hand_server};
 use fsm_state::Cluster;
@@ -20,6 +19,33 @@ use raft_records::{Before, LogDelta, changed, joined, remember};
 use rows::{NoMemory, Refusal};
 use server::{Outbox, Server};
 use std::alloc::Global;
+
+/// Whether it is want of memory.
+pub fn is_memory(refusal: &Refusal) -> bool
+    ensures { result ≡ is_memory refusal.now }
+{
+    match refusal {
+        Refusal::NoMemory => true,
+        _ => false,
+    }
+}
+
+/// A refusal is answered; want of memory ends the process.
+fn outcome(done: Result<Stepped, Refusal>) -> Result<Option<Refusal>, NoMemory>
+    ensures { IfOk result (IsOutcome done) }
+{
+    match done {
+        Ok(Stepped::Taken) => Ok(None),
+        Ok(Stepped::Crashed) => Err(NoMemory),
+        Err(refusal) => {
+            if is_memory(&refusal) {
+                Err(NoMemory)
+            } else {
+                Ok(Some(refusal))
+            }
+        }
+    }
+}
 
 /// A server's part of the log.
 pub fn log_of(server: &Server) -> &Raft<Cluster>
@@ -43,8 +69,7 @@ fn delta_of(server: &Server, before: &Option<Before>) -> LogDelta
 
 /// A frame is handed to the server: all of its bytes. What it changes of the stored part is added to
 /// what was changed. A refusal is answered; want of memory ends the process.
-/// - `hands`: it takes the frame, or refuses it and is as it was.
-/// - `refused`: a refusal that is answered is the server's, and leaves it as it was.
+/// - `hands`: it takes the frame, or refuses it for the cause that is answered, and is as it was.
 /// - `change`: the change led to what it stores.
 pub fn bring(
     alloc: Global,
@@ -53,25 +78,18 @@ pub fn bring(
     change: &mut LogDelta,
     outbox: &mut Outbox,
 ) -> Result<Option<Refusal>, NoMemory>
-    ensures hands { OnOk result (Hands server.old (FrameBytes frame.now) server.new outbox.old
+    ensures hands { IfOk result (Hands server.old (FrameBytes frame.now) server.new outbox.old
         outbox.new) }
-    ensures refused { IfOk result (λ cause. MatchOption cause
-        (ServerSteps server.old (FrameBytes frame.now) server.new outbox.old outbox.new)
-        (ServerRefuses server.old (FrameBytes frame.now))) }
     ensures change { OnOk result ((first : Stored State Command) →
         IsDelta change.old first (stored_part server.old.raft) →
         IsDelta change.new first (stored_part server.new.raft)) }
 {
     let before = remember(alloc, log_of(server))?;
-    match deliver_to_server(server, frame, outbox) {
-        Ok(Stepped::Taken) => {
-            *change = joined::<Cluster>(*change, delta_of(server, &before));
-            Ok(None)
-        }
-        Ok(Stepped::Crashed) => Err(NoMemory),
-        Err(Refusal::NoMemory) => Err(NoMemory),
-        Err(refusal) => Ok(Some(refusal)),
+    let told = outcome(deliver_to_server(server, frame, outbox))?;
+    if told.is_none() {
+        *change = joined::<Cluster>(*change, delta_of(server, &before));
     }
+    Ok(told)
 }
 
 /// The same of an input of the server's own.
@@ -83,29 +101,22 @@ pub fn hand(
     outbox: &mut Outbox,
 ) -> Result<Option<Refusal>, NoMemory>
     requires { IsOwn (handing input) }
-    ensures hands { OnOk result (Hands server.old (handing input) server.new outbox.old
+    ensures hands { IfOk result (Hands server.old (handing input) server.new outbox.old
         outbox.new) }
-    ensures refused { IfOk result (λ cause. MatchOption cause
-        (ServerSteps server.old (handing input) server.new outbox.old outbox.new)
-        (ServerRefuses server.old (handing input))) }
     ensures change { OnOk result ((first : Stored State Command) →
         IsDelta change.old first (stored_part server.old.raft) →
         IsDelta change.new first (stored_part server.new.raft)) }
 {
     let compacts = matches!(&input, ServerInput::Compact);
     let before = remember(alloc, log_of(server))?;
-    match hand_server(server, input, outbox) {
-        Ok(Stepped::Taken) => {
-            let delta = if compacts {
-                LogDelta::Whole
-            } else {
-                delta_of(server, &before)
-            };
-            *change = joined::<Cluster>(*change, delta);
-            Ok(None)
-        }
-        Ok(Stepped::Crashed) => Err(NoMemory),
-        Err(Refusal::NoMemory) => Err(NoMemory),
-        Err(refusal) => Ok(Some(refusal)),
+    let told = outcome(hand_server(server, input, outbox))?;
+    if told.is_none() {
+        let delta = if compacts {
+            LogDelta::Whole
+        } else {
+            delta_of(server, &before)
+        };
+        *change = joined::<Cluster>(*change, delta);
     }
+    Ok(told)
 }

@@ -1,5 +1,5 @@
 //! One server of the group as an actor. What it is asked, and what it answers, are items of bytes.
-ghost use Rattle.std.specs.Prelude.{◌≡◌, ◌++◌, ◌∷◌, [], ℕ, List, IfOk, OnOk, Some, map};
+ghost use Rattle.std.specs.Prelude.{◌≡◌, ◌++◌, ◌∷◌, [], true, ℕ, List, IfOk, OnOk, Some, map};
 ghost use Rattle.std.specs.List.{AllByRecursion};
 ghost use Rattle.rows.specs.declared.command.Command.{Command};
 ghost use Rattle.fsm_model.specs.ClusterMachine.{cluster_spec};
@@ -10,12 +10,12 @@ ghost use Rattle.raft_records.specs.Records.{IsDelta, raft_replay};
 ghost use Rattle.journal.specs.Events.{IoEvent, AreOutputs};
 ghost use Rattle.journal.specs.Replays.{Replay};
 ghost use Rattle.journal.specs.Savings.{output_event, IsSaving};
-ghost use Rattle.server_node.specs.Items.{IsFrame, IsLine, IsQuestion, IsStatus, IsTime};
+ghost use Rattle.server_node.specs.Items.{IsLine, IsQuestion, IsStatus, IsTime, is_frame};
 ghost use Rattle.server_node.specs.Laws.Outputs.{outputs_alone};
 ghost use Rattle.server_node.specs.Nodes.{NodeView};
-ghost use Rattle.server_node.specs.Turns.{IsTold, Turn, WentBy, sends, stored_by};
+ghost use Rattle.server_node.specs.Turns.{IsTold, Turn, WentBy, stored_by};
 
-use crate::answers::{placed_text, proposal_word, put_answer, put_line, refused_text, status_text};
+use crate::answers::{placed_text, proposal_word, put_answer, put_frames, put_line, refused_text, status_text};
 use crate::asked::Asked;
 use crate::handing::{bring, hand, log_of};
 use crate::items::{is_frame, read_line, read_question, read_request, read_status, read_time};
@@ -24,7 +24,7 @@ use crate::passing::{do_beat, do_due, do_work};
 use actor::no_output;
 use fsm_state::Cluster;
 use group_inputs::ServerInput;
-use journal::{Actor, Out, Saving, item_of};
+use journal::{Actor, Out, Saving};
 use raft_core::{ProposalStatus, Ticket};
 use raft_records::LogDelta;
 use raft_snapshot::{Stable, changes_lead, stable_texts_are_whole};
@@ -33,7 +33,7 @@ use server::{Outbox, Server};
 use std::alloc::Global;
 use std::marker::Model;
 use timers::{Looked, Seen, ServerTimers};
-use wire::{Frames, Kind};
+use wire::Kind;
 use workers::ServerWorkers;
 
 /// A server of the group as an actor: with its desk, what waits for its workers, its timers, and
@@ -57,20 +57,6 @@ impl Model for ServerNode {
       timers = n.timers;
       asked = n.asked.items;
     } };
-}
-
-/// Puts each frame, as an item, behind what is sent and reported.
-fn put_frames(alloc: Global, frames: &Frames, outs: &mut Vec<Out>) -> Result<(), NoMemory>
-    ensures { OnOk result (map output_event outs.new.items
-        ≡ map output_event outs.old.items ++ sends frames.now) }
-{
-    for place in 0..frames.len() {
-        let Some(frame) = frames.get(place) else {
-            unreachable!()
-        };
-        outs.push(Out::Item(item_of(alloc, frame.bytes())?))?;
-    }
-    Ok(())
 }
 
 /// Puts what is answered behind what is sent.
@@ -117,7 +103,7 @@ impl ServerNode {
         outbox: &mut Outbox,
         answers: &mut Vec<Out>,
     ) -> Result<(), NoMemory>
-        requires { IsFrame item.now }
+        requires { is_frame item.now ≡ true }
         ensures { OnOk result (WentBy item.now self.old self.new change.old change.new outbox.old
             outbox.new answers.old.items answers.new.items) }
     {
@@ -308,7 +294,7 @@ impl ServerNode {
         if let Some((id, line)) = read_line(item) {
             return self.take_line(alloc, id, line, item, change, outbox, answers);
         }
-        if let Some((id, index, term)) = read_question(item) {
+        if let Some((id, (index, term))) = read_question(item) {
             return self.answer(alloc, id, index, term, item, answers);
         }
         match read_status(item) {

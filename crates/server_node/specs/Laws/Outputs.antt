@@ -4,8 +4,8 @@ use Rattle.std.specs.List.{AllByRecursion}
 use Rattle.wire.specs.Frames.{Frame}
 use Rattle.journal.specs.Events.{IoEvent, AreOutputs}
 use Rattle.server_node.specs.Nodes.{NodeView}
-use Rattle.server_node.specs.Answers.{IsAnswer, ticket, refused, unread, asked, shown, settled}
-use Rattle.server_node.specs.Turns.{IsTold, Turn, sends}
+use Rattle.server_node.specs.Answers.{IsAnswer, ticket, refused, unread, asked, shown, settled, sends}
+use Rattle.server_node.specs.Turns.{IsTold, Turn}
 
 -- one event is an output
 one : (item : List ℕ) (old new : NodeView) (event : IoEvent) (events : List IoEvent) → IsTold item old new event → AreOutputs events → AreOutputs (event ∷ events)
