@@ -1,2 +1,4 @@
 pub mod Reading
 pub mod Handing
+pub mod Passing
+pub mod Sending

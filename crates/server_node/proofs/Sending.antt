@@ -5,7 +5,7 @@ use Rattle.std.proofs.lemmas.List.{map-append, take_more}
 use Rattle.std.proofs.lemmas.Option.{get_or_from_slice_get, slice_get_within}
 use Rattle.wire.specs.Frames.{Frame, sized}
 use Rattle.journal.specs.Events.{IoEvent, BytesSent}
-use Rattle.server_node.specs.Turns.{sends}
+use Rattle.server_node.specs.Answers.{sends}
 
 pub sent_more : (frames : List Frame) (i : ℕ) (frame : Frame) (old mid new : List IoEvent) → slice_get frames i ≡ Some frame → mid ≡ old ++ sends (take i frames)
     → new ≡ mid ++ BytesSent (sized frame.bytes) ∷ [] → new ≡ old ++ sends (take (i + 1) frames)
