@@ -78,12 +78,12 @@ pub data IsAnswer (item : List ℕ) (old new : NodeView) (event : IoEvent) : Typ
       → ServerRefuses old.server (OwnInput (Request request)) cause → event ≡ answer id (refused_text cause) → IsAnswer item old new event
   unread : (id : ℕ) (line : List ℕ) → IsLine item id line → ((request : OperatorRequest) → IsRequestLine old.server.raft.me line request → ⊥)
       → event ≡ answer id (codes "no request to this server") → IsAnswer item old new event
-  asked : (id index term : ℕ) (standing : Option ProposalStatus) → IsQuestion item id index term
-      → ((s : Server) → RefinesServer new.server s → standing ≡ proposal_status_of s.raft index term)
-      → event ≡ answer id (placed_text (proposal_word standing) index term) → IsAnswer item old new event
+  asked : (id index term : ℕ) (status : Option ProposalStatus) → IsQuestion item id index term
+      → ((s : Server) → RefinesServer new.server s → status ≡ proposal_status_of s.raft index term)
+      → event ≡ answer id (placed_text (proposal_word status) index term) → IsAnswer item old new event
   shown : (id : ℕ) (text : List ℕ) → IsStatus item id
       → ((s : Server) → RefinesServer new.server s → text ≡ status_text (role_of s.raft.mode) s.raft.term (length s.raft.log))
       → event ≡ answer id text → IsAnswer item old new event
-  settled : (a : Asked) (standing : ProposalStatus) → Contains old.asked a ⊎ Contains new.asked a
-      → ((s : Server) → RefinesServer new.server s → proposal_status_of s.raft a.index a.term ≡ Some standing)
-      → event ≡ answer a.id (placed_text (proposal_word (Some standing)) a.index a.term) → IsAnswer item old new event
+  settled : (a : Asked) (status : ProposalStatus) → Contains old.asked a ⊎ Contains new.asked a
+      → ((s : Server) → RefinesServer new.server s → proposal_status_of s.raft a.index a.term ≡ Some status)
+      → event ≡ answer a.id (placed_text (proposal_word (Some status)) a.index a.term) → IsAnswer item old new event

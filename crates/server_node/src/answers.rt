@@ -102,10 +102,10 @@ fn refused_line(alloc: Global, cause: Refusal) -> Result<Vec<u8>, NoMemory>
 }
 
 /// What a server knows of a ticket.
-pub fn proposal_word(standing: Option<ProposalStatus>) -> &'static str
-    ensures { result.now ≡ proposal_word standing }
+pub fn proposal_word(status: Option<ProposalStatus>) -> &'static str
+    ensures { result.now ≡ proposal_word status }
 {
-    match standing {
+    match status {
         None => "down",
         Some(ProposalStatus::Pending) => "open",
         Some(ProposalStatus::Committed) => "committed",

@@ -262,8 +262,8 @@ impl ServerNode {
             let term = asked.term;
             match self.server.proposal_status(Ticket { index, term }) {
                 None | Some(ProposalStatus::Pending) => open.push(*asked)?,
-                standing => {
-                    let word = proposal_word(standing);
+                status => {
+                    let word = proposal_word(status);
                     let text = placed_text(alloc, word, index.get(), term.get())?;
                     put_answer(alloc, asked.id, text.as_slice(), answers)?;
                 }

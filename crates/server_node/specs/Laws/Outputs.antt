@@ -13,9 +13,9 @@ one item old new event events (inr line) rest = subst (λ e. AreOutputs (e ∷ e
 one item old new event events (inl (ticket id index term line a b is)) rest = subst (λ e. AreOutputs (e ∷ events)) (sym is) rest
 one item old new event events (inl (refused id line request cause a b c is)) rest = subst (λ e. AreOutputs (e ∷ events)) (sym is) rest
 one item old new event events (inl (unread id line a b is)) rest = subst (λ e. AreOutputs (e ∷ events)) (sym is) rest
-one item old new event events (inl (asked id index term standing a b is)) rest = subst (λ e. AreOutputs (e ∷ events)) (sym is) rest
+one item old new event events (inl (asked id index term status a b is)) rest = subst (λ e. AreOutputs (e ∷ events)) (sym is) rest
 one item old new event events (inl (shown id text a b is)) rest = subst (λ e. AreOutputs (e ∷ events)) (sym is) rest
-one item old new event events (inl (settled a standing b c is)) rest = subst (λ e. AreOutputs (e ∷ events)) (sym is) rest
+one item old new event events (inl (settled a status b c is)) rest = subst (λ e. AreOutputs (e ∷ events)) (sym is) rest
 
 all_told : (item : List ℕ) (old new : NodeView) (events : List IoEvent) → AllByRecursion (IsTold item old new) events → AreOutputs events
 all_told item old new [] told = tt
