@@ -98,7 +98,7 @@ impl ClientNode {
     }
 
     /// A frame is handed to the agent. The server that sent a list is asked from then on.
-    fn take_frame(
+    fn bring_frame(
         &mut self,
         item: &[u8],
         frames: &mut Frames,
@@ -155,7 +155,7 @@ impl ClientNode {
         ensures { IfOk result (WentBy item.now self.old self.new frames.old frames.new) }
     {
         if is_frame(item) {
-            return self.take_frame(item, frames);
+            return self.bring_frame(item, frames);
         }
         match read_time(item) {
             Some(ms) => self.pass_time(alloc, ms, item, frames),

@@ -81,7 +81,7 @@ pub data IsAnswer (item : List ℕ) (old new : NodeView) (event : IoEvent) : Typ
   asked : (id index term : ℕ) (status : Option ProposalStatus) → IsQuestion item id index term
       → ((s : Server) → RefinesServer new.server s → status ≡ proposal_status_of s.raft index term)
       → event ≡ answer id (placed_text (proposal_word status) index term) → IsAnswer item old new event
-  shown : (id : ℕ) (text : List ℕ) → IsStatus item id
+  stands_so : (id : ℕ) (text : List ℕ) → IsStatus item id
       → ((s : Server) → RefinesServer new.server s → text ≡ status_text (role_of s.raft.mode) s.raft.term (length s.raft.log))
       → event ≡ answer id text → IsAnswer item old new event
   settled : (a : Asked) (status : ProposalStatus) → Contains old.asked a ⊎ Contains new.asked a

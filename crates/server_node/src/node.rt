@@ -95,7 +95,7 @@ impl ServerNode {
 
     /// A frame is handed to the server. One that it refuses is told to the standard error. Where it
     /// tells of a leader, or the server gave its vote by it, another wait for a leader begins.
-    fn take_frame(
+    fn bring_frame(
         &mut self,
         alloc: Global,
         item: &[u8],
@@ -286,7 +286,7 @@ impl ServerNode {
             outbox.new answers.old.items answers.new.items) }
     {
         if is_frame(item) {
-            return self.take_frame(alloc, item, change, outbox, answers);
+            return self.bring_frame(alloc, item, change, outbox, answers);
         }
         if let Some(ms) = read_time(item) {
             return self.pass_time(alloc, ms, item, change, outbox, answers);

@@ -4,7 +4,7 @@ use Rattle.std.specs.List.{AllByRecursion}
 use Rattle.wire.specs.Frames.{Frame}
 use Rattle.journal.specs.Events.{IoEvent, AreOutputs}
 use Rattle.server_node.specs.Nodes.{NodeView}
-use Rattle.server_node.specs.Answers.{IsAnswer, ticket, refused, unread, asked, shown, settled, sends}
+use Rattle.server_node.specs.Answers.{IsAnswer, ticket, refused, unread, asked, stands_so, settled, sends}
 use Rattle.server_node.specs.Turns.{IsTold, Turn}
 
 -- one event is an output
@@ -14,7 +14,7 @@ one item old new event events (inl (ticket id index term line a b is)) rest = su
 one item old new event events (inl (refused id line request cause a b c is)) rest = subst (λ e. AreOutputs (e ∷ events)) (sym is) rest
 one item old new event events (inl (unread id line a b is)) rest = subst (λ e. AreOutputs (e ∷ events)) (sym is) rest
 one item old new event events (inl (asked id index term status a b is)) rest = subst (λ e. AreOutputs (e ∷ events)) (sym is) rest
-one item old new event events (inl (shown id text a b is)) rest = subst (λ e. AreOutputs (e ∷ events)) (sym is) rest
+one item old new event events (inl (stands_so id text a b is)) rest = subst (λ e. AreOutputs (e ∷ events)) (sym is) rest
 one item old new event events (inl (settled a status b c is)) rest = subst (λ e. AreOutputs (e ∷ events)) (sym is) rest
 
 all_told : (item : List ℕ) (old new : NodeView) (events : List IoEvent) → AllByRecursion (IsTold item old new) events → AreOutputs events

@@ -1,5 +1,5 @@
 use Rattle.client_node.proofs.Turning.{frame_went}
-use Rattle.client_node.proofs.node.ClientNode.take_frame.Goals as goal
+use Rattle.client_node.proofs.node.ClientNode.bring_frame.Goals as goal
 
 pub returns : goal.returns
 returns c =
