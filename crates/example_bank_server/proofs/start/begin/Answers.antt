@@ -12,7 +12,7 @@ pub returns-in-Ok-clause-begins : goal.returns-in-Ok-clause-begins
 returns-in-Ok-clause-begins g c = λ is.
     let m = g.M.Machine.spec in
     let store = option_map (λ text. text.now) c.args.stored in
-    let here = subst (λ h. IsStored m h store c.in_ok-stable.stable) is c.in_ok-stable.ensures.stored in
+    let here = subst (λ h. IsStored m h store c.in-Ok-stable.stable) is c.in-Ok-stable.ensures.stored in
     record {
       member = c.in-Ok.ensures.member;
       place = c.in-Ok.ensures.number;
