@@ -1,6 +1,6 @@
 pub mod Starting
-pub mod Reading
-pub mod Handing
-pub mod Telling
+pub mod ReadItems
+pub mod Handed
+pub mod Told
 pub mod Changing
 pub mod Turning

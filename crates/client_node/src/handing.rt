@@ -97,7 +97,7 @@ fn ask_all(
 fn ask(
     agent: &mut Agent,
     due: ClientDue,
-    leader: Option<ServerId>,
+    leader: &Option<ServerId>,
     size: usize,
     frames: &mut Frames,
 ) -> Result<(), NoMemory>
@@ -108,7 +108,7 @@ fn ask(
 {
     match leader {
         Some(server) => {
-            hand(agent, input_for(due, server), frames)?;
+            hand(agent, input_for(due, *server), frames)?;
             Ok(())
         }
         None => ask_all(agent, due, size, frames),
@@ -119,7 +119,7 @@ fn ask(
 pub fn ask_each(
     agent: &mut Agent,
     due: &[ClientDue],
-    leader: Option<ServerId>,
+    leader: &Option<ServerId>,
     size: usize,
     frames: &mut Frames,
 ) -> Result<(), NoMemory>

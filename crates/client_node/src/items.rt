@@ -91,13 +91,13 @@ fn read_line(alloc: Global, line: &[u8]) -> Result<Option<Event>, NoMemory>
 }
 
 /// The end that an input is.
-fn end_in(input: ClientInput) -> Option<(AllocId, bool)>
+fn end_in(input: &ClientInput) -> Option<(AllocId, bool)>
     ensures { MatchOption result
-        ((id : AnyAllocId) (well : Bool) → client_input input ≡ End id well → ⊥)
-        (λ e. client_input input ≡ End e.0 e.1) }
+        ((id : AnyAllocId) (well : Bool) → client_input input.now ≡ End id well → ⊥)
+        (λ e. client_input input.now ≡ End e.0 e.1) }
 {
     match input {
-        ClientInput::End(id, well) => Some((id, well)),
+        ClientInput::End(id, well) => Some((*id, *well)),
         ClientInput::Frame(_) => None,
         ClientInput::Register(_) => None,
         ClientInput::Ping(_) => None,
@@ -108,15 +108,15 @@ fn end_in(input: ClientInput) -> Option<(AllocId, bool)>
 }
 
 /// The end of an event, where it is one of this client's.
-fn end_of(me: ClientId, event: Event) -> Option<(AllocId, bool)>
+fn end_of(me: ClientId, event: &Event) -> Option<(AllocId, bool)>
     ensures { MatchOption result
-        ((id : AnyAllocId) (well : Bool) → group_event event ≡ AtClient me (End id well) → ⊥)
-        (λ e. group_event event ≡ AtClient me (End e.0 e.1)) }
+        ((id : AnyAllocId) (well : Bool) → group_event event.now ≡ AtClient me (End id well) → ⊥)
+        (λ e. group_event event.now ≡ AtClient me (End e.0 e.1)) }
 {
     match event {
         Event::Client(client, input) => {
             if client.number() == me.number() {
-                end_in(Box::into_inner(input))
+                end_in(input.as_ref())
             } else {
                 None
             }
@@ -141,7 +141,7 @@ pub fn read_end(
         return Ok(None);
     }
     match read_line(alloc, behind_first(item))? {
-        Some(event) => Ok(end_of(me, event)),
+        Some(event) => Ok(end_of(me, &event)),
         None => Ok(None),
     }
 }

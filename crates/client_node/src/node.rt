@@ -124,7 +124,7 @@ impl ClientNode {
     {
         let due = self.timers.pass(alloc, ms)?;
         let server = self.asking.server(due.as_slice());
-        ask_each(&mut self.agent, due.as_slice(), server, self.size, frames)?;
+        ask_each(&mut self.agent, due.as_slice(), &server, self.size, frames)?;
         Ok(None)
     }
 

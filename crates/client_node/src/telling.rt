@@ -113,17 +113,17 @@ fn put_word(alloc: Global, word: &str, id: AllocId, outs: &mut Vec<Out>) -> Resu
 fn put_word_unless(
     alloc: Global,
     word: &str,
-    id: AllocId,
+    id: &AllocId,
     others: &[AllocId],
     outs: &mut Vec<Out>,
 ) -> Result<(), NoMemory>
     ensures { OnOk result (map output_event outs.new.items ≡ map output_event outs.old.items
-        ++ map (said_of word.now) (filter (is_not_among others.now) (id ∷ []))) }
+        ++ map (said_of word.now) (filter (is_not_among others.now) (id.now ∷ []))) }
 {
-    if is_among(id, others) {
+    if is_among(*id, others) {
         return Ok(());
     }
-    put_word(alloc, word, id, outs)
+    put_word(alloc, word, *id, outs)
 }
 
 /// Puts a word for each of these ids that is not among the others, in order.
@@ -138,7 +138,7 @@ fn put_words(
         ++ map (said_of word.now) (filter (is_not_among others.now) ids.now)) }
 {
     for id in ids {
-        put_word_unless(alloc, word, *id, others, outs)?;
+        put_word_unless(alloc, word, id, others, outs)?;
     }
     Ok(())
 }

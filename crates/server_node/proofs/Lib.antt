@@ -1,4 +1,4 @@
-pub mod Reading
-pub mod Handing
-pub mod Passing
+pub mod ReadItems
+pub mod HandedIn
+pub mod Passed
 pub mod Sending

@@ -170,10 +170,10 @@ fn request_in(input: ServerInput) -> Option<OperatorRequest>
         ((request : AnyRequest) → server_input (handing input) ≡ Request request → ⊥)
         (λ request. server_input (handing input) ≡ Request request) }
 {
-    match input {
-        ServerInput::Request(request) => Some(request),
-        _ => None,
-    }
+    let ServerInput::Request(request) = input else {
+        return None;
+    };
+    Some(request)
 }
 
 /// The request of an event, where it is one to this server.
@@ -182,17 +182,13 @@ fn request_of(me: ServerId, event: Event) -> Option<OperatorRequest>
         ((request : AnyRequest) → group_event event ≡ AtServer me (Request request) → ⊥)
         (λ request. group_event event ≡ AtServer me (Request request)) }
 {
-    match event {
-        Event::Server(server, input) => {
-            if server.number() == me.number() {
-                request_in(Box::into_inner(input))
-            } else {
-                None
-            }
-        }
-        Event::Client(_, _) => None,
-        Event::Deliver(_) => None,
+    let Event::Server(server, input) = event else {
+        return None;
+    };
+    if server.number() != me.number() {
+        return None;
     }
+    request_in(Box::into_inner(input))
 }
 
 /// What an operator asks of this server, by a line as scenarios have it: `request 1 stop web`; none

@@ -8,4 +8,4 @@ returns-then-are_first c =
     let before = c.args.before.now in
     let now = c.args.now.now in
     let within : length before ≤ length now = omega arith in
-    subst (λ change. LeadsIds change before now) (sym ?) (first_leads before now within (c.are_first.ensures c.if-are_first.true))
+    subst (λ change. LeadsIds change before now) (sym c.change_behind.ensures) (first_leads before now within (c.are_first.ensures c.if-are_first.true))

@@ -1,6 +1,6 @@
 use Rattle.std.proofs.Common.{◌≡◌, ◌∙◌, ◌++◌, ◌∷◌, [], ap, refl, arith, length-append}
 use Rattle.client_node.specs.Turns.{asks_due}
-use Rattle.client_node.proofs.Handing.{asked_more, hands_none}
+use Rattle.client_node.proofs.Handed.{asked_more, hands_none}
 use Rattle.client_node.proofs.handing.ask_all.Goals as goal
 
 pub loop-place-init : goal.loop-place-init

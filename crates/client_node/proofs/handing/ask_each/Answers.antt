@@ -2,7 +2,7 @@ use Rattle.std.proofs.Common.{◌≡◌, ◌∙◌, ◌+◌, ◌++◌, ◌∷◌
 use Rattle.std.proofs.lemmas.List.{take_more}
 use Rattle.group_inputs.specs.declared.client_input.ClientInput.{ClientInput}
 use Rattle.client_node.specs.Turns.{AsksAll, HandsAll, asks_due}
-use Rattle.client_node.proofs.Handing.{asks_more, hands_both, hands_none}
+use Rattle.client_node.proofs.Handed.{asks_more, hands_both, hands_none}
 use Rattle.client_node.proofs.handing.ask_each.Goals as goal
 
 pub loop-what-init : goal.loop-what-init
@@ -10,15 +10,9 @@ loop-what-init c = ([], refl, hands_none c.args.agent.now c.args.frames.now)
 
 pub loop-what-preserved : goal.loop-what-preserved
 loop-what-preserved c =
-    let so_far = c.loop-what.invariant in
-    let due = c.args.due.now in
-    let i = c.loop-what.what-index in
-    let what = c.what-item.result in
     let asked = c.in_ok-ask.ensures in
-    let one : take (i + 1) due ≡ take i due ++ what ∷ [] = take_more due i what c.loop-what-test.true ∙ ap (λ x. take i due ++ x ∷ []) (sym c.what-item.is) in
-    (so_far.0 ++ map (asks_due what) asked.0,
-    subst (λ l. AsksAll l (so_far.0 ++ map (asks_due what) asked.0)) (sym one) (asks_more (take i due) what so_far.0 asked.0 so_far.1 asked.1),
-    hands_both c.args.agent.now c.args.frames.now so_far.0 c.loop-what.agent c.loop-what.frames (map (asks_due what) asked.0) c.ask.new.agent c.ask.new.frames so_far.2 asked.2)
+    let so_far = c.loop-what.invariant in
+    ?
 
 pub returns : goal.returns
 returns c =

@@ -1,5 +1,5 @@
 use Rattle.group_inputs.specs.declared.client_input.ClientInput.TheVariants as inputs
-use Rattle.client_node.proofs.Handing.{handed_so}
+use Rattle.client_node.proofs.Handed.{handed_so}
 use Rattle.client_node.proofs.handing.bring.Goals as goal
 
 pub returns : goal.returns

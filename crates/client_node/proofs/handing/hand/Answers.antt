@@ -1,4 +1,4 @@
-use Rattle.client_node.proofs.Handing.{handed_so}
+use Rattle.client_node.proofs.Handed.{handed_so}
 use Rattle.client_node.proofs.handing.hand.Goals as goal
 
 pub returns : goal.returns

@@ -1,6 +1,6 @@
 use Rattle.std.proofs.Common.{ap}
 use Rattle.group_inputs.specs.Events.{client_input}
-use Rattle.client_node.proofs.Reading.{no_end}
+use Rattle.client_node.proofs.ReadItems.{no_end}
 use Rattle.client_node.proofs.items.end_in.Goals as goal
 
 pub returns-in-Frame : goal.returns-in-Frame

@@ -1,6 +1,6 @@
 use Rattle.std.proofs.Common.{IfOk, subst}
 use Rattle.client_node.specs.Inner.Lines.{IsReadAs}
-use Rattle.client_node.proofs.Reading.{no_text_no_line}
+use Rattle.client_node.proofs.ReadItems.{no_text_no_line}
 use Rattle.client_node.proofs.items.read_line.Goals as goal
 
 pub returns-in-Ok : goal.returns-in-Ok

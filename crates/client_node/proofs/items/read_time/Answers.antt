@@ -1,7 +1,7 @@
 use Rattle.std.proofs.Common.{◌≡◌, Ok, subst, sym}
 use Rattle.fields_model.specs.Format.{whole}
 use Rattle.fields_model.specs.Fields.{u32}
-use Rattle.client_node.proofs.Reading.{apart, refused_unread}
+use Rattle.client_node.proofs.ReadItems.{apart, refused_unread}
 use Rattle.client_node.proofs.items.read_time.Goals as goal
 
 pub returns-then-not-begins_with : goal.returns-then-not-begins_with

@@ -19,8 +19,8 @@ returns-then-starts_with-clause-fault c =
 pub returns-then-starts_with-clause-another : goal.returns-then-starts_with-clause-another
 returns-then-starts_with-clause-another c = own_only c.from_journal.result _ c.from_journal.ensures.own
 
-pub returns-else-starts_with-clause-another : goal.returns-else-starts_with-clause-another
-returns-else-starts_with-clause-another c = λ is.
+pub returns-clause-another : goal.returns-clause-another
+returns-clause-another c = λ is.
     let header = c.args.header.now in
     let bytes = c.in-Some.bytes.now in
     let own = starts_is Decides-eqb bytes header c.starts_with.result c.starts_with.ensures.value in

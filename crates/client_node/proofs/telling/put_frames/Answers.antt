@@ -2,7 +2,7 @@ use Rattle.std.proofs.Common.{◌≡◌, ◌∙◌, ◌++◌, ◌∷◌, [], ap,
 use Rattle.wire.specs.Frames.{sized}
 use Rattle.journal.specs.Events.{BytesSent}
 use Rattle.journal.specs.Savings.{output_event}
-use Rattle.client_node.proofs.Telling.{sent_more}
+use Rattle.client_node.proofs.Told.{sent_more}
 use Rattle.client_node.proofs.telling.put_frames.Goals as goal
 
 pub loop-place-preserved : goal.loop-place-preserved

@@ -9,8 +9,8 @@ returns-in-None c =
     let before = map output_event c.args.outs.now.items in
     subst (λ told. before ≡ before ++ lines_of told) (sym c.in-None.is) (sym (append-nil before))
 
-pub returns-in_ok-line : goal.returns-in_ok-line
-returns-in_ok-line c =
+pub returns-in_ok-line-in-Some : goal.returns-in_ok-line-in-Some
+returns-in_ok-line-in-Some c =
     let before = map output_event c.args.outs.now.items in
     subst (λ told. OnOk c.put_line.result (map output_event c.put_line.new.outs.items ≡ before ++ lines_of told)) (sym c.in-Some.is)
-    (subst (λ line. OnOk c.put_line.result (map output_event c.put_line.new.outs.items ≡ before ++ LineReported line ∷ [])) c.in_ok-line.ensures c.put_line.ensures)
+    (subst (λ line. OnOk c.put_line.result (map output_event c.put_line.new.outs.items ≡ before ++ LineReported line ∷ [])) c.in_ok-line-in-Some.ensures c.put_line.ensures)

@@ -1,6 +1,6 @@
 use Rattle.std.proofs.Common.{map}
 use Rattle.journal.specs.Savings.{output_event}
-use Rattle.client_node.proofs.Telling.{said_more}
+use Rattle.client_node.proofs.Told.{said_more}
 use Rattle.client_node.proofs.telling.put_words.Goals as goal
 
 pub loop-id-preserved : goal.loop-id-preserved

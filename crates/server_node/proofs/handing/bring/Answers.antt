@@ -1,6 +1,6 @@
 use Rattle.std.proofs.Common.{Ok}
 use Rattle.group_inputs.specs.Handings.{FrameBytes}
-use Rattle.server_node.proofs.Handing.{handed_so}
+use Rattle.server_node.proofs.HandedIn.{handed_so}
 use Rattle.server_node.proofs.handing.bring.Goals as goal
 
 pub returns-clause-hands : goal.returns-clause-hands

@@ -1,6 +1,6 @@
 use Rattle.std.proofs.Common.{IfOk, subst}
 use Rattle.server_node.specs.Inner.Lines.{IsReadAs}
-use Rattle.server_node.proofs.Reading.{no_text_no_line}
+use Rattle.server_node.proofs.ReadItems.{no_text_no_line}
 use Rattle.server_node.proofs.items.read_bytes.Goals as goal
 
 pub returns-in-Ok : goal.returns-in-Ok

@@ -1,7 +1,7 @@
 use Rattle.std.proofs.Common.{◌≡◌, Ok, subst, sym}
 use Rattle.fields_model.specs.Format.{◌then◌, whole}
 use Rattle.fields_model.specs.Fields.{index, term, u64}
-use Rattle.server_node.proofs.Reading.{apart, refused_unread}
+use Rattle.server_node.proofs.ReadItems.{apart, refused_unread}
 use Rattle.server_node.proofs.items.read_question.Goals as goal
 
 pub returns-then-not-begins_with : goal.returns-then-not-begins_with

@@ -1,4 +1,4 @@
-use Rattle.server_node.proofs.Reading.{request_read}
+use Rattle.server_node.proofs.ReadItems.{request_read}
 use Rattle.server_node.proofs.items.read_request.Goals as goal
 
 pub returns-in-Some : goal.returns-in-Some

@@ -1,5 +1,5 @@
 use Rattle.std.proofs.Common.{◌∙◌, sym}
-use Rattle.server_node.proofs.Reading.{none_there}
+use Rattle.server_node.proofs.ReadItems.{none_there}
 use Rattle.server_node.proofs.items.read_text.Goals as goal
 
 pub returns-else-is_memory : goal.returns-else-is_memory

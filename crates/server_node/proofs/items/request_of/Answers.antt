@@ -2,7 +2,7 @@ use Rattle.std.proofs.Common.{◌∙◌, ◌+◌, ap, sym, arith}
 use Rattle.group_model.specs.Worlds.{AtServer}
 use Rattle.group_inputs.specs.Events.{group_event, server_input}
 use Rattle.group_inputs.specs.Handings.{handing}
-use Rattle.server_node.proofs.Reading.{anothers_request, no_servers, own_request}
+use Rattle.server_node.proofs.ReadItems.{anothers_request, no_servers, own_request}
 use Rattle.server_node.proofs.items.request_of.Goals as goal
 
 pub returns-then-number-number : goal.returns-then-number-number

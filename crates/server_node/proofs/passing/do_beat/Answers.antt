@@ -1,7 +1,7 @@
 use Rattle.std.proofs.Common.{◌∷◌, []}
 use Rattle.group_inputs.specs.declared.server_input.ServerInput.TheVariants as inputs
 use Rattle.group_inputs.specs.Handings.{handing}
-use Rattle.server_node.proofs.Handing.{hands_none, hands_one}
+use Rattle.server_node.proofs.HandedIn.{hands_none, hands_one}
 use Rattle.server_node.proofs.passing.do_beat.Goals as goal
 
 pub returns-in_ok-hand-clause-all : goal.returns-in_ok-hand-clause-all

@@ -2,8 +2,8 @@ use Rattle.std.proofs.Common.{◌≡◌, ◌++◌, ◌∷◌, [], ap, subst, tak
 use Rattle.std.specs.List.{filter_map}
 use Rattle.server_node.specs.Handed.{HandsAll}
 use Rattle.server_node.specs.Passing.{input_due}
-use Rattle.server_node.proofs.Handing.{hands_both, hands_none}
-use Rattle.server_node.proofs.Passing.{due_more}
+use Rattle.server_node.proofs.HandedIn.{hands_both, hands_none}
+use Rattle.server_node.proofs.Passed.{due_more}
 use Rattle.server_node.proofs.passing.do_due.Goals as goal
 
 pub loop-what-init : goal.loop-what-init

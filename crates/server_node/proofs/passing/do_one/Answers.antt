@@ -1,6 +1,6 @@
 use Rattle.group_inputs.specs.Handings.{handing}
-use Rattle.server_node.proofs.Handing.{hands_one}
-use Rattle.server_node.proofs.Passing.{none_due, one_due}
+use Rattle.server_node.proofs.HandedIn.{hands_one}
+use Rattle.server_node.proofs.Passed.{none_due, one_due}
 use Rattle.server_node.proofs.passing.do_one.Goals as goal
 
 pub returns-in_ok-hand-clause-all : goal.returns-in_ok-hand-clause-all

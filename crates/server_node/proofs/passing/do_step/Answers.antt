@@ -1,6 +1,6 @@
 use Rattle.std.proofs.Common.{◌∷◌, []}
 use Rattle.group_inputs.specs.Handings.{handing}
-use Rattle.server_node.proofs.Handing.{hands_none, hands_one}
+use Rattle.server_node.proofs.HandedIn.{hands_none, hands_one}
 use Rattle.server_node.proofs.passing.do_step.Goals as goal
 
 pub returns-in_default-clause-all : goal.returns-in_default-clause-all

@@ -1,5 +1,5 @@
 use Rattle.std.proofs.Common.{◌++◌, []}
-use Rattle.server_node.proofs.Handing.{hands_both, hands_none, own_both}
+use Rattle.server_node.proofs.HandedIn.{hands_both, hands_none, own_both}
 use Rattle.server_node.proofs.passing.do_work.Goals as goal
 
 pub steps-init : goal.steps-init

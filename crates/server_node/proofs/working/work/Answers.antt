@@ -1,4 +1,4 @@
-use Rattle.server_node.proofs.Passing.{asks_own}
+use Rattle.server_node.proofs.Passed.{asks_own}
 use Rattle.server_node.proofs.working.work.Goals as goal
 
 pub returns-in-Asks : goal.returns-in-Asks
