@@ -1,7 +1,7 @@
 -- What was changed of the ids that were ever started.
 use Rattle.std.proofs.Common.{◌≡◌, ◌∙◌, ◌+◌, ◌-◌, ◌^◌, ◌<◌, ◌≤◌, ◌++◌, ◌∷◌, [], ℕ, Bool, true, false, List, Option, Some, None, Result, Ok, Err, OnOk, ap, subst, sym, arith, length, take, drop, get_or, take_all, nat_eq}
 use Rattle.std.specs.Prelude.{if◌then◌else◌, option_map}
-use Rattle.std.proofs.lemmas.List.{take-append-drop, take-take, take_more, length-take-le}
+use Rattle.std.proofs.lemmas.List.{length-drop, length-take-le, take-append-drop, take-take, take_more}
 use Rattle.std.proofs.lemmas.Grind.{common_steps}
 use Rattle.rows.specs.declared.allocation.AllocId.{AllocId}
 use Rattle.fsm_model.specs.Words.{same_alloc}
@@ -61,6 +61,9 @@ pub ids_written : (ids : List AllocId) (r : Result (Unit {0}) NoMemory) (old new
     → OnOk r ((payload : List ℕ) × (new ≡ old ++ payload) × (ids_in payload ≡ Some ids))
 ids_written ids (Ok _) old new wrote = ((list 4 (2 ^ 32 - 1) allocation_id).text ids, wrote.1, ids_again ids wrote.0)
 ids_written ids (Err e) old new wrote = tt
+
+pub to_end : (count : ℕ) (ids : List AllocId) → take (length ids - count) (drop count ids) ≡ drop count ids
+to_end count ids = take_all (length ids - count) (drop count ids) (omega (arith, length-drop count ids))
 
 -- the ids behind those that stay make all of them again
 pub behind_again : (count : ℕ) (first now : List AllocId) (payload : List ℕ) → first ≡ take count now → ids_in payload ≡ Some (drop count now) → started_replay.after first payload ≡ Some now

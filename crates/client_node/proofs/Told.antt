@@ -73,12 +73,12 @@ puts o a b c d s p q l first second third fourth =
     let all : d ≡ (((o ++ s) ++ p) ++ q) ++ l = fourth ∙ ap (λ x. x ++ l) (third ∙ ap (λ x. x ++ q) (second ∙ ap (λ x. x ++ p) first)) in
     all ∙ append_assoc ((o ++ s) ++ p) q l ∙ append_assoc (o ++ s) p (q ++ l) ∙ append_assoc o s (p ++ (q ++ l)) ∙ ap (λ x. o ++ (s ++ x)) (sym (append_assoc p q l))
 
-pub turn_put : (old new : AgentView) (frames : List Frame) (told : Option Refusal) (ran runs : List AllocId) (o a b c d : List IoEvent) → ran ≡ runs_in old → runs ≡ runs_in new
-    → a ≡ o ++ sends frames → b ≡ a ++ map (said_of (codes "stop")) (filter (is_not_among runs) ran) → c ≡ b ++ map (said_of (codes "start")) (filter (is_not_among ran) runs)
+pub turn_put : (old new : AgentView) (frames : List Frame) (told : Option Refusal) (ran runs again : List AllocId) (o a b c d : List IoEvent) → ran ≡ runs_in old → runs ≡ runs_in new → again ≡ runs_in new
+    → a ≡ o ++ sends frames → b ≡ a ++ map (said_of (codes "stop")) (filter (is_not_among runs) ran) → c ≡ b ++ map (said_of (codes "start")) (filter (is_not_among ran) again)
     → d ≡ c ++ lines_of told → d ≡ o ++ (sends frames ++ (said_between old new ++ lines_of told))
-turn_put old new frames told ran runs o a b c d before now first second third fourth =
+turn_put old new frames told ran runs again o a b c d before now same first second third fourth =
     let stops : List AllocId → List AllocId → List IoEvent = λ x y. map (said_of (codes "stop")) (filter (is_not_among y) x) in
     let starts : List AllocId → List AllocId → List IoEvent = λ x y. map (said_of (codes "start")) (filter (is_not_among x) y) in
     puts o a b c d (sends frames) (stops (runs_in old) (runs_in new)) (starts (runs_in old) (runs_in new)) (lines_of told) first
     (subst (λ x. b ≡ a ++ stops x (runs_in new)) before (subst (λ y. b ≡ a ++ stops ran y) now second))
-    (subst (λ x. c ≡ b ++ starts x (runs_in new)) before (subst (λ y. c ≡ b ++ starts ran y) now third)) fourth
+    (subst (λ x. c ≡ b ++ starts x (runs_in new)) before (subst (λ y. c ≡ b ++ starts ran y) same third)) fourth

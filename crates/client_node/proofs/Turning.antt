@@ -18,6 +18,11 @@ pub turn_made : (item : List ℕ) (old new : NodeView) (sent : List Frame) (told
 turn_made item old new sent told before after went put =
     (sends sent ++ (said_between old.agent new.agent ++ lines_of told), record { sent = sent; told = told; went = went; is = λ i. sends sent ++ (said_between old.agent new.agent ++ lines_of told) }, put)
 
+-- what an item is read as
+abbrev pub IsEndIn : ℕ → List ℕ → Option (AllocId × Bool) → Type 0
+IsEndIn me item None = (id : AllocId) (well : Bool) → IsEnd me item id well → ⊥
+IsEndIn me item (Some e) = IsEnd me item e.0 e.1
+
 -- ---- by kinds of items
 
 module _ (item : List ℕ) (old : NodeView) (agent : AgentView) (timers : ClientTimes) (is : (let v : NodeView = record { agent = agent; timers = timers } in v ≡ old)) (new : AgentView) (before after : List Frame) where

@@ -140,7 +140,10 @@ impl ClientNode {
         ensures { IfOk result (WentBy item.now self.old self.new frames.old frames.new) }
     {
         match read_end(alloc, self.me(), item)? {
-            Some((id, well)) => hand(&mut self.agent, ClientInput::End(id, well), frames),
+            Some(ended) => {
+                let input = ClientInput::End(ended.0, ended.1);
+                hand(&mut self.agent, input, frames)
+            }
             None => Ok(Some(Refusal::Frame(0))),
         }
     }
