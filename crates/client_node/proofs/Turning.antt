@@ -1,5 +1,6 @@
 -- What is made of an item.
 use Rattle.std.proofs.Common.{◌≡◌, ◌++◌, [], List, ℕ, Bool, true, false, Option, Some, None, Result, Ok, Err, IfOk, refl, sym, subst}
+use Rattle.std.specs.Prelude.{MatchOption}
 use Rattle.rows.specs.declared.allocation.AllocId.{AllocId}
 use Rattle.rows.specs.declared.refusal.Refusal.{Refusal}
 use Rattle.rows.specs.declared.refusal.Refusal.TheVariants as refusals
@@ -20,8 +21,7 @@ turn_made item old new sent told before after went put =
 
 -- what an item is read as
 abbrev pub IsEndIn : ℕ → List ℕ → Option (AllocId × Bool) → Type 0
-IsEndIn me item None = (id : AllocId) (well : Bool) → IsEnd me item id well → ⊥
-IsEndIn me item (Some e) = IsEnd me item e.0 e.1
+IsEndIn me item o = MatchOption o ((id : AllocId) (well : Bool) → IsEnd me item id well → ⊥) (λ (e : AllocId × Bool). IsEnd me item e.0 e.1)
 
 -- ---- by kinds of items
 
