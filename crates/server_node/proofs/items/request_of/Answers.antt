@@ -5,20 +5,15 @@ use Rattle.group_inputs.specs.Handings.{handing}
 use Rattle.server_node.proofs.ReadItems.{anothers_request, no_servers, own_request}
 use Rattle.server_node.proofs.items.request_of.Goals as goal
 
-pub returns-then-number-number : goal.returns-then-number-number
-returns-then-number-number c =
+pub returns : goal.returns
+returns c =
     let event = group_event c.args.event in
     let input = server_input (handing c.into_inner.result) in
     own_request c.args.me c.in-Server.server event input c.request_in.result (ap group_event c.in-Server.is ∙ ap (λ given. AtServer c.in-Server.server (server_input (handing given))) (sym c.into_inner.ensures))
-    (omega (arith, c.number.ensures.value, c.if-number-number.true, c.number-2.ensures.value)) c.request_in.ensures
+    (omega (arith, c.number.ensures.value, c.if-number.false, c.number-2.ensures.value)) c.request_in.ensures
 
-pub returns-else-number-number : goal.returns-else-number-number
-returns-else-number-number c =
-    anothers_request c.args.me c.in-Server.server (group_event c.args.event) (server_input (handing c.in-Server.input.value)) (ap group_event c.in-Server.is)
-    (λ same. c.if-number-number.false (c.number.ensures.value ∙ ap (λ n. n + 1) same ∙ sym c.number-2.ensures.value))
+pub returns-then-number : goal.returns-then-number
+returns-then-number c = ?
 
-pub returns-in-Client : goal.returns-in-Client
-returns-in-Client c = no_servers c.args.me (ap group_event c.in-Client.is) tt
-
-pub returns-in-Deliver : goal.returns-in-Deliver
-returns-in-Deliver c = no_servers c.args.me (ap group_event c.in-Deliver.is) tt
+pub returns-in_default : goal.returns-in_default
+returns-in_default c = ?
