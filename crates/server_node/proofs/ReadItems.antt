@@ -1,5 +1,5 @@
 -- What is read of an item.
-use Rattle.std.proofs.Common.{◌≡◌, ◌≢◌, ◌∙◌, ◌⊎◌, inl, inr, ℕ, Bool, false, true, List, Option, Some, None, Result, Ok, Err, ap, drop, sym, subst}
+use Rattle.std.proofs.Common.{◌≡◌, ◌≢◌, ◌∙◌, ◌⊎◌, inl, inr, ℕ, Bool, false, true, List, Option, Some, None, Result, Ok, Err, ap, refl, sym, subst}
 use Rattle.std.specs.Prelude.{IsUtf8, MatchOption}
 use Rattle.rows.specs.declared.refusal.Refusal.{Refusal}
 use Rattle.rows.specs.declared.refusal.Refusal.TheVariants as refusals
@@ -7,7 +7,10 @@ use Rattle.fields_model.specs.Format.{Refuses}
 use Rattle.rows.specs.declared.request.OperatorRequest.{OperatorRequest}
 use Rattle.group_model.specs.Inputs.{Input, Request}
 use Rattle.group_model.specs.Worlds.{Event, AtServer}
+use Rattle.rows.specs.declared.actor.ServerId.{ServerId}
 use Rattle.group_inputs.specs.declared.event.Event.{Event as GroupEvent}
+use Rattle.group_inputs.specs.declared.event.Event.TheVariants as events
+use Rattle.group_inputs.specs.declared.server_input.ServerInput.{ServerInput}
 use Rattle.group_inputs.specs.Events.{group_event}
 use Rattle.event_texts.specs.EventLines.{IsEventLine}
 use Rattle.event_texts.proofs.Lines.{printable_is_text}
@@ -47,12 +50,10 @@ own_request me server event input (Some request) is same asks = is ∙ ap (λ n.
 pub anothers_request : (me server : ℕ) (event : Event) (input : Input) → event ≡ AtServer server input → server ≢ me → IsRequestOf event me None
 anothers_request me server event input is other = λ request asks. let both : AtServer server input ≡ AtServer me (Request request) = sym is ∙ asks in let here : server ≡ me = cc both in other here
 
-abbrev pub IsNoServers : Event → Type 0
-IsNoServers (AtServer server input) = ⊥
-IsNoServers _ = Unit {0}
-
-pub no_servers : {a b : Event} (me : ℕ) → a ≡ b → IsNoServers b → IsRequestOf a me None
-no_servers me is none = λ request asks. subst IsNoServers (sym is ∙ asks) none
+pub no_servers : (me : ℕ) (event : GroupEvent) → ((server : ServerId) (input : _) → event ≡ events.Server server input → ⊥) → IsRequestOf (group_event event) me None
+no_servers me (events.Server server input) none = absurd (none server input refl)
+no_servers me (events.Client client input) none = λ request asks. absurd (cc asks)
+no_servers me (events.Deliver k) none = λ request asks. absurd (cc asks)
 
 pub request_read : (me : ℕ) (line : List ℕ) (event : GroupEvent) (r : Option OperatorRequest) → IsReadAs line (Some event) → IsRequestOf (group_event event) me r
     → MatchOption r ((request : OperatorRequest) → IsRequestLine me line request → ⊥) (IsRequestLine me line)

@@ -13,7 +13,9 @@ returns c =
     (omega (arith, c.number.ensures.value, c.if-number.false, c.number-2.ensures.value)) c.request_in.ensures
 
 pub returns-then-number : goal.returns-then-number
-returns-then-number c = ?
+returns-then-number c =
+    anothers_request c.args.me c.in-Server.server (group_event c.args.event) (server_input (handing c.in-Server.input.value)) (ap group_event c.in-Server.is)
+    (λ same. c.if-number.true (c.number.ensures.value ∙ ap (λ n. n + 1) same ∙ sym c.number-2.ensures.value))
 
 pub returns-in_default : goal.returns-in_default
-returns-in_default c = ?
+returns-in_default c = no_servers c.args.me c.args.event c.in_default.not-Server
