@@ -56,7 +56,10 @@ pub asks_more : (due : List ClientDue) (what : ClientDue) (handed : List ClientI
     → AsksAll (due ++ what ∷ []) (handed ++ map (asks_due what) servers)
 asks_more [] what handed servers none some =
     (servers, [], some, (ap (λ (all : List ClientInput). all ++ map (asks_due what) servers) none ∙ sym (append-nil (map (asks_due what) servers))), refl)
-asks_more (first ∷ due) what handed servers asked some =
-    (asked.0, asked.1 ++ map (asks_due what) servers, asked.2,
-    (ap (λ (all : List ClientInput). all ++ map (asks_due what) servers) asked.3 ∙ append_assoc (map (asks_due first) asked.0) asked.1 (map (asks_due what) servers)),
-    asks_more due what asked.1 servers asked.4 some)
+asks_more (first ∷ due) what handed servers asked some = (
+  asked.0,
+  asked.1 ++ map (asks_due what) servers,
+  asked.2,
+  (ap (λ (all : List ClientInput). all ++ map (asks_due what) servers) asked.3 ∙ append_assoc (map (asks_due first) asked.0) asked.1 (map (asks_due what) servers)),
+  asks_more due what asked.1 servers asked.4 some,
+)

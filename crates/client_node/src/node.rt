@@ -98,11 +98,7 @@ impl ClientNode {
     }
 
     /// A frame is handed to the agent. The server that sent a list is asked from then on.
-    fn bring_frame(
-        &mut self,
-        item: &[u8],
-        frames: &mut Frames,
-    ) -> Result<Option<Refusal>, NoMemory>
+    fn bring_frame(&mut self, item: &[u8], frames: &mut Frames) -> Result<Option<Refusal>, NoMemory>
         requires { is_frame item.now ≡ true }
         ensures { IfOk result (WentBy item.now self.old self.new frames.old frames.new) }
     {

@@ -39,12 +39,7 @@ fn ids_at(alloc: Global, payload: &[u8], at: usize) -> Result<Vec<AllocId>, Faul
 }
 
 /// The ids with those of one record more; the record stands at an offset.
-fn follow(
-    alloc: Global,
-    ids: &mut Vec<AllocId>,
-    payload: &[u8],
-    at: usize,
-) -> Result<(), Fault>
+fn follow(alloc: Global, ids: &mut Vec<AllocId>, payload: &[u8], at: usize) -> Result<(), Fault>
     ensures after { OnOk result
         (started_replay.after ids.old.items payload.now ≡ Some ids.new.items) }
     ensures fault { IfErr result (λ fault. (place : ℕ) → fault ≡ faults.BadStore place →

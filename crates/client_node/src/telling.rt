@@ -154,11 +154,7 @@ fn refused_line(alloc: Global, cause: Refusal) -> Result<Vec<u8>, NoMemory>
 }
 
 /// Puts what is refused, if it is, as a line behind what is sent and reported.
-fn put_refusal(
-    alloc: Global,
-    told: Option<Refusal>,
-    outs: &mut Vec<Out>,
-) -> Result<(), NoMemory>
+fn put_refusal(alloc: Global, told: Option<Refusal>, outs: &mut Vec<Out>) -> Result<(), NoMemory>
     ensures { OnOk result (map output_event outs.new.items
         ≡ map output_event outs.old.items ++ lines_of told) }
 {
@@ -183,7 +179,7 @@ pub fn put_turn(
 ) -> Result<(), NoMemory>
     ensures { (old : AgentView) → ran.now ≡ runs_in old →
         OnOk result (map output_event outs.new.items ≡ map output_event outs.old.items
-            ++ (sends frames.now ++ (said_between old agent.now ++ lines_of told))) }
+        ++ (sends frames.now ++ (said_between old agent.now ++ lines_of told))) }
 {
     let runs = running_ids(alloc, agent)?;
     put_frames(alloc, frames, outs)?;

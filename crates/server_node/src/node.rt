@@ -15,7 +15,9 @@ ghost use Rattle.server_node.specs.Laws.Outputs.{outputs_alone};
 ghost use Rattle.server_node.specs.Nodes.{NodeView};
 ghost use Rattle.server_node.specs.Turns.{IsTold, Turn, WentBy, stored_by};
 
-use crate::answers::{placed_text, proposal_word, put_answer, put_frames, put_line, refused_text, status_text};
+use crate::answers::{
+    placed_text, proposal_word, put_answer, put_frames, put_line, refused_text, status_text,
+};
 use crate::asked::Asked;
 use crate::handing::{bring, hand, log_of};
 use crate::items::{is_frame, read_line, read_question, read_request, read_status, read_time};

@@ -16,10 +16,11 @@ loop-what-preserved c =
     let i = c.loop-what.what-index in
     let what = get_or due i dues.Register in
     let asked = c.in_ok-ask.ensures in
-    let one : take (i + 1) due ≡ take i due ++ what ∷ [] = take_more due i dues.Register c.loop-what-test.true in
-    (so_far.0 ++ map (asks_due what) asked.0,
-    subst (λ l. AsksAll l (so_far.0 ++ map (asks_due what) asked.0)) (sym one) (asks_more (take i due) what so_far.0 asked.0 so_far.1 asked.1),
-    hands_both c.args.agent.now c.args.frames.now so_far.0 c.loop-what.agent c.loop-what.frames (map (asks_due what) asked.0) c.ask.new.agent c.ask.new.frames so_far.2 asked.2)
+    let one : take (i + 1) due ≡ take i due ++ what ∷ [] = take_more due i dues.Register c.loop-what-test.true in (
+      so_far.0 ++ map (asks_due what) asked.0,
+      subst (λ l. AsksAll l (so_far.0 ++ map (asks_due what) asked.0)) (sym one) (asks_more (take i due) what so_far.0 asked.0 so_far.1 asked.1),
+      hands_both c.args.agent.now c.args.frames.now so_far.0 c.loop-what.agent c.loop-what.frames (map (asks_due what) asked.0) c.ask.new.agent c.ask.new.frames so_far.2 asked.2,
+    )
 
 pub returns : goal.returns
 returns c =

@@ -19,7 +19,10 @@ returns-in_ok-put_ids-in-Behind c =
     let put = c.in_ok-put_ids-in-Behind.ensures in
     let now = started_by c.args.self.now in
     let count = c.in-Behind.count in
-    let same : c.started-started.result.now ≡ now = c.started-started.ensures.started ∙ ap started_by c.self.view_is in
-    (put.0, put.1, λ first led.
-    let here = subst (λ d. LeadsIds d first now) c.in-Behind.is led in
-    behind_again count first now put.0 here.1 (subst (λ l. ids_in put.0 ≡ Some (drop count l)) same (put.2 ∙ ap Some (to_end count c.started-started.result.now))))
+    let same : c.started-started.result.now ≡ now = c.started-started.ensures.started ∙ ap started_by c.self.view_is in (
+      put.0,
+      put.1,
+      λ first led.
+          let here = subst (λ d. LeadsIds d first now) c.in-Behind.is led in
+          behind_again count first now put.0 here.1 (subst (λ l. ids_in put.0 ≡ Some (drop count l)) same (put.2 ∙ ap Some (to_end count c.started-started.result.now))),
+    )
