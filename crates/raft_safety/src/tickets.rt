@@ -9,14 +9,14 @@ ghost use Rattle.raft_safety.specs.Tickets.{Stood, GoesOn, CommitIsFinal};
 
 use machine_model::Machine;
 
-/// What a server has committed is settled. Who was told the index and the term at which a command
+/// What a server has committed is final. Who was told the index and the term at which a command
 /// was appended, and finds that term at that index within some server's commit, knows that the
 /// command is in the list for good, at that place; who finds another term there knows that it never
 /// will be.
 /// - `settled`: the list has an entry of that server's term at that index; no other command ever
 ///   stood there in that term, in any log; and however the run goes on, its list has the same entry
 ///   there.
-/// - `election_started`: what stood in a run stood in each that goes on from it.
+/// - `stood`: what stood in a run stood in each that goes on from it.
 pub fn commit_is_final<M: Machine>()
     ensures settled { EachRun M.spec (λ n events past w. (list : List (Entry M.Command))
         → Chain past w list → CommitIsFinal past w list) }

@@ -1,4 +1,4 @@
-//! Laws of servers whose covered entries are blank, and of the text of what a server stores, for
+//! Laws of servers whose covered entries are no-ops, and of the text of what a server stores, for
 //! every machine. Each function has an empty body: what it says is its contract.
 ghost use Rattle.std.specs.Prelude.{◌≡◌, ◌≤◌, ◌++◌, ℕ, List, length, take, drop, nat_le, true, false, if◌then◌else◌, Ok, Some};
 ghost use Rattle.fields_model.specs.Format.{IsBytes, Lawful};
@@ -40,7 +40,7 @@ pub fn steps_keep_prefixes<M: Machine>()
 {}
 
 /// A base and a server that is shown stand, at once, for each server of the definitions that has,
-/// in place of the blank entries, some that the base covers: all of these have applied the same
+/// in place of the covered no-ops, some that the base covers: all of these have applied the same
 /// state, and a crash, a restart and a Compact lead from what stands for a server to what stands
 /// for the server after it.
 pub fn compactions_refine_servers<M: Machine>()

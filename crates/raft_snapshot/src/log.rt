@@ -15,7 +15,7 @@ use std::marker::Model;
 /// A log of fewer than 2^40 entries, of which a snapshot covers the first ones, or none. It is one
 /// list whose covered part is known by its number, its last term and the state after it: what each
 /// call does is said of every whole list that the log may be (`whole`), and of the entries with the
-/// covered ones blank. (Raft, extended version 2014, section 7.)
+/// covered ones no-ops. (Raft, extended version 2014, section 7.)
 #[derive(Drop)]
 pub struct Log<M: Machine> {
     base: Snapshot<M>,

@@ -42,7 +42,7 @@ use std::thread::Threads;
 /// Where the standard error is a terminal, one more line there helps behind a bad scenario or
 /// transcript.
 ///
-/// `sim_sweep` tells `progress` how far it is, and nothing else does.
+/// `sweep` tells `progress` how far it is, and nothing else does.
 ///
 /// Under `threads` it starts threads and waits for them, so that its return is not claimed.
 pub fn nomadsim<'a, R, F: Shelf, W: Write, E: Write, P: Progress + Sync>(

@@ -36,7 +36,7 @@ impl Serialize for Change {
 const NEAR: usize = 16;
 
 /// The changes, in rising order, that make these lines of those old ones, all of them by their
-/// places among all lines. `election_started` says where among the old ones each line may stand.
+/// places among all lines. `stood` says where among the old ones each line may stand.
 pub(crate) fn changes_between(
     alloc: Global,
     old: &[usize],
