@@ -22,7 +22,7 @@ use Rattle.runner.specs.Told.{TellsThreads}
 use Rattle.runner.specs.Inner.Closed.{TellsClosed, TellsOnThreads}
 use Rattle.runner.specs.Inner.Faults.{IsFound}
 use Rattle.sim_files.specs.declared.fault.Fault.{Fault}
-use Rattle.sim_files.specs.declared.fault.Fault.TheVariants.{CommandLine, CannotRead, CannotWrite, BadScenario, BadTranscript, NoSuchEvent, Percentages, NoMemory, Output}
+use Rattle.sim_files.specs.declared.fault.Fault.TheVariants.{CommandLine, CannotRead, CannotWrite, BadScenario, BadTranscript, NoSuchEvent, NoSuchStride, NoRoom, Percentages, NoMemory, Output}
 
 -- ---- threads
 
@@ -100,6 +100,8 @@ help_is_told found (CannotWrite name) status is (inr two) few = absurd (omega (a
 help_is_told found BadScenario status is (inr two) few = absurd (omega (arith, two, few))
 help_is_told found (BadTranscript place hint) status is (inr two) few = absurd (omega (arith, two, few))
 help_is_told found (NoSuchEvent events) status is (inr two) few = absurd (omega (arith, two, few))
+help_is_told found (NoSuchStride events) status is (inr two) few = absurd (omega (arith, two, few))
+help_is_told found NoRoom status is (inr two) few = absurd (omega (arith, two, few))
 help_is_told found (Percentages lost repeated) status is (inr two) few = absurd (omega (arith, two, few))
 help_is_told found NoMemory status is (inr three) few = absurd (omega (arith, three, few))
 help_is_told found Output status is (inr two) few = absurd (omega (arith, two, few))

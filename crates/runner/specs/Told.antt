@@ -1,5 +1,5 @@
 -- What the program tells at exit status 0 and 1.
-use Rattle.std.specs.Prelude.{◌≡◌, ◌⊎◌, ◌+◌, ◌≤◌, ℕ, Bool, true, false, List, [], Option, None, Some, IfSome, decimal, length, option_and_then, option_map, unwrap_or}
+use Rattle.std.specs.Prelude.{◌≡◌, ◌⊎◌, ◌+◌, ◌≤◌, ℕ, Bool, true, false, List, [], Option, None, Some, IfSome, decimal, length, map, option_and_then, option_map, string_bytes, take, unwrap_or}
 use Rattle.std.specs.Io.KnownBytes.{Appends}
 use Rattle.rows.specs.declared.actor.Actor.{Actor}
 use Rattle.world.specs.GroupView.{GroupView, nodes_of, renumbered}
@@ -12,9 +12,13 @@ use Rattle.runner.specs.Pages.{GrowsByPage}
 use Rattle.sim_draw.specs.Pictures.{GrowsByPicture}
 use Rattle.sim_inspect.specs.Told.{GrowsByLines}
 use Rattle.sim_tell.specs.Told.{GrowsByEventLines}
+use Rattle.sim_recovery.specs.declared.recovering.Recovery.{Recovery}
+use Rattle.sim_recovery.specs.declared.table.Table.{Table}
+use Rattle.sim_recovery.specs.Recoveries.{IsRecovery, IsTable}
+use Rattle.sim_recovery.specs.Tables.{recovery_text, table_text}
 pub use Rattle.sim_args.specs.Words.{AskFor, AskForThreads, words_fault}
 use Rattle.sim_args.specs.declared.command.CommandLine.{CommandLine}
-use Rattle.sim_args.specs.declared.command.CommandLine.TheVariants.{Run, Threads, Replay, Draw, Check, Tell, Inspect, Expand, Sweep}
+use Rattle.sim_args.specs.declared.command.CommandLine.TheVariants.{Run, Threads, Replay, Draw, Check, Tell, Inspect, Recover, Expand, Sweep}
 use Rattle.sim_args.specs.declared.command.SweepWords.{SweepWords}
 use Rattle.sim_scenario.specs.declared.scenario.Scenario.{Scenario}
 use Rattle.sim_scenario.specs.declared.scenario.Settings.{Settings}
@@ -95,6 +99,33 @@ pub record TellsStanding (file at : Option (List ℕ)) (status : ℕ) (old new :
   pub lines : GrowsByLines old new
   pub taken : status ≡ 0
 
+-- a whole number from 1 on
+abbrev pub IsStride : List ℕ → ℕ → Type 0
+IsStride word every = (word ≡ decimal every) × (1 ≤ every)
+
+-- what is told of a run's group after so many of its events: what brings it back from there; or,
+-- where a number was given, from each so many-th moment up to there
+abbrev pub IsWayText : Option (List ℕ) → Recorded → ℕ → List ℕ → Type 0
+IsWayText None r after text =
+    (way : Recovery) × IsRecovery r.servers r.nodes (take after r.events) way
+    × (text ≡ recovery_text after (length r.events) way.leader way.counts (map string_bytes way.lines.items))
+IsWayText (Some word) r after text =
+    (every : ℕ) × (table : Table) × IsStride word every
+    × IsTable r.servers r.nodes (take after r.events) every table
+    × (text ≡ table_text table.rows.items table.farthest.after)
+
+-- it was told what brings a transcript's group back: that of the file, where its bytes are known,
+-- after as many of its events as were asked for
+pub record TellsWay (file at every : Option (List ℕ)) (status : ℕ) (old new : Option (List ℕ)) : Type 0 where
+  pub recorded : Recorded
+  pub read : IfSome file (IsTranscript recorded)
+  pub after : ℕ
+  pub asked : IsAfter at (length recorded.events) after
+  pub text : List ℕ
+  pub way : IsWayText every recorded after text
+  pub shown : Appends old new text
+  pub taken : status ≡ 0
+
 -- ---- short scenarios
 
 -- nothing is wrong with a scenario in short form, which is that of the file, where its bytes are
@@ -166,6 +197,8 @@ Tells before after (Check file short) status old new = TellsCheck short (before 
 Tells before after (Tell file) status old new = TellsEach (before file.now) status old new
 Tells before after (Inspect file at json) status old new =
     TellsStanding (before file.now) (option_map (λ k. k.now) at) status old new
+Tells before after (Recover file at every) status old new =
+    TellsWay (before file.now) (option_map (λ k. k.now) at) (option_map (λ n. n.now) every) status old new
 Tells before after (Expand file) status old new = TellsPlain (before file.now) status old new
 Tells before after (Sweep file words) status old new = TellsSweep (before file.now) words status old new
 

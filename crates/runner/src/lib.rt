@@ -9,6 +9,7 @@ mod expanding;
 mod frame;
 mod paging;
 pub mod program;
+mod recovering;
 mod script;
 mod seeing;
 mod sweeping;

@@ -14,6 +14,7 @@ ghost use Rattle.sim_files.specs.declared.fault.Fault.TheVariants.{Output};
 use crate::checks::check;
 use crate::drawing::draw_file;
 use crate::expanding::expand_file;
+use crate::recovering::recover_file;
 use crate::seeing::{inspect_file, tell_file};
 use crate::sweeping::sweep_file;
 use crate::threads::threads_file;
@@ -225,6 +226,9 @@ where
         CommandLine::Tell { file } => tell_file(alloc, shelf, out, file),
         CommandLine::Inspect { file, at, json } => {
             inspect_file(alloc, shelf, out, file, at, json)
+        }
+        CommandLine::Recover { file, at, every } => {
+            recover_file(alloc, shelf, out, file, at, every)
         }
         CommandLine::Expand { file } => expand_file(alloc, shelf, out, file),
         CommandLine::Sweep { file, words } => {

@@ -73,8 +73,8 @@ fn form_of(json: bool) -> Form
     if json { Form::Json } else { Form::Text }
 }
 
-// After how many of so many events; none where the word is no such number.
-fn after_of(at: Option<&str>, all: usize) -> Option<usize>
+/// After how many of so many events; none where the word is no such number.
+pub(crate) fn after_of(at: Option<&str>, all: usize) -> Option<usize>
     ensures some { IfSome result (IsAfter (option_map (λ k. k.now) at.entry) all) }
     ensures none { IfNone result
         ((after : ℕ) → ¬ IsAfter (option_map (λ k. k.now) at.entry) all after) }

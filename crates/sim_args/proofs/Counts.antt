@@ -13,7 +13,7 @@ use Rattle.sim_args.specs.declared.command.KeyRange.{KeyRange}
 use Rattle.sim_args.specs.declared.command.SweepWords.{SweepWords}
 use Rattle.sim_args.specs.Inner.Lines.{is_line, is_taken}
 use Rattle.sim_args.specs.declared.command.CommandLine.{CommandLine}
-use Rattle.sim_args.specs.declared.command.CommandLine.TheVariants.{Run, Threads, Replay, Draw, Check, Tell, Inspect, Expand, Sweep}
+use Rattle.sim_args.specs.declared.command.CommandLine.TheVariants.{Run, Threads, Replay, Draw, Check, Tell, Inspect, Recover, Expand, Sweep}
 
 digit_counts : (n : ℕ) → 1 ≤ n → n ≤ 8 → are_workers ((n + 48) ∷ []) ≡ true
 digit_counts n least most =
@@ -53,6 +53,7 @@ line_counts (Some (name, rows)) (Draw file html) is = rw is.0 refl
 line_counts (Some (name, rows)) (Check file short) is = rw is.0 refl
 line_counts (Some (name, rows)) (Tell file) is = rw is.0 refl
 line_counts (Some (name, rows)) (Inspect file at json) is = rw is.0 refl
+line_counts (Some (name, rows)) (Recover file at every) is = rw is.0 refl
 line_counts (Some (name, rows)) (Expand file) is = rw is.0 refl
 line_counts (Some (name, rows)) (Sweep file words) is = rw (is.0, words_count rows words is.2) refl
 

@@ -10,7 +10,7 @@ use Rattle.clap.specs.Simple.{Shape, argument_words, built_leaf, entered, filled
 use Rattle.clap.specs.Kinds.{Kinds, check_kinds}
 use Rattle.clap.specs.Faults.{built_fault, check_fault, defaults_fault, entered_fault, level_fault, settle_fault, walk_fault}
 use Rattle.clap.specs.Takes.{is_given}
-use Rattle.sim_args.specs.Words.{app_with, at_option, csv_flag, html_flag, jobs_option, json_flag, keys_option, nomadsim_app, out_option, percent_option, required_word, short_flag, workers_option}
+use Rattle.sim_args.specs.Words.{app_with, at_option, csv_flag, every_option, html_flag, jobs_option, json_flag, keys_option, nomadsim_app, out_option, percent_option, required_word, short_flag, workers_option}
 use Rattle.sim_args.specs.Inner.Lines.{is_line}
 use Rattle.sim_args.proofs.GivenValues.{given_has_value, rows_are_valued}
 use Rattle.sim_args.proofs.Rounds.{IsNoHelp, no_first, no_second, stops_at_no_help}
@@ -45,6 +45,9 @@ tell_level = level (codes "tell") (codes "T") (help_flag ∷ [])
 abbrev inspect_level : Shape
 inspect_level = level (codes "inspect") (codes "T") (filled at_option ∷ filled json_flag ∷ help_flag ∷ [])
 
+abbrev recover_level : Shape
+recover_level = level (codes "recover") (codes "T") (filled at_option ∷ filled every_option ∷ help_flag ∷ [])
+
 abbrev expand_level : Shape
 expand_level = level (codes "expand") (codes "FILE") (help_flag ∷ [])
 
@@ -59,7 +62,7 @@ sweep_level = level (codes "sweep") (codes "FILE") sweep_others
 abbrev levels : App
 levels = record {
   top = record nomadsim_app.top { rules = help_flag ∷ filled version_rule ∷ []; is_built = true };
-  subs = run_level ∷ threads_level ∷ replay_level ∷ draw_level ∷ check_level ∷ tell_level ∷ inspect_level ∷ expand_level ∷ sweep_level ∷ built_leaf help_shape ∷ [];
+  subs = run_level ∷ threads_level ∷ replay_level ∷ draw_level ∷ check_level ∷ tell_level ∷ inspect_level ∷ recover_level ∷ expand_level ∷ sweep_level ∷ built_leaf help_shape ∷ [];
 }
 
 -- where a level has no fault, its walk, the subcommand that it enters and its last check have none
@@ -120,6 +123,12 @@ json_apart = other_more (codes "T") (filled json_flag) (help_flag ∷ []) refl (
 at_apart : AreOther (codes "T") (filled at_option ∷ filled json_flag ∷ help_flag ∷ [])
 at_apart = other_more (codes "T") (filled at_option) (filled json_flag ∷ help_flag ∷ []) refl json_apart
 
+every_apart : AreOther (codes "T") (filled every_option ∷ help_flag ∷ [])
+every_apart = other_more (codes "T") (filled every_option) (help_flag ∷ []) refl (help_apart (codes "T") refl)
+
+recover_apart : AreOther (codes "T") (filled at_option ∷ filled every_option ∷ help_flag ∷ [])
+recover_apart = other_more (codes "T") (filled at_option) (filled every_option ∷ help_flag ∷ []) refl every_apart
+
 csv_apart : AreOther (codes "FILE") (filled csv_flag ∷ help_flag ∷ [])
 csv_apart = other_more (codes "FILE") (filled csv_flag) (help_flag ∷ []) refl (help_apart (codes "FILE") refl)
 
@@ -139,26 +148,27 @@ sweep_apart =
 
 -- ---- which subcommand is met
 
-abbrev met : Bool → Bool → Bool → Bool → Bool → Bool → Bool → Bool → Bool → Bool → Option Shape
-met run threads replay draw check tell inspect expand sweep help =
+abbrev met : Bool → Bool → Bool → Bool → Bool → Bool → Bool → Bool → Bool → Bool → Bool → Option Shape
+met run threads replay draw check tell inspect recover expand sweep help =
     cond run (Some run_level) (cond threads (Some threads_level) (cond replay (Some replay_level) (cond draw (Some draw_level) (cond check (Some check_level)
-    (cond tell (Some tell_level) (cond inspect (Some inspect_level) (cond expand (Some expand_level) (cond sweep (Some sweep_level) (cond help (Some (built_leaf help_shape)) None)))))))))
+    (cond tell (Some tell_level) (cond inspect (Some inspect_level) (cond recover (Some recover_level) (cond expand (Some expand_level) (cond sweep (Some sweep_level) (cond help (Some (built_leaf help_shape)) None))))))))))
 
-met_line : (words : List Text) (run threads replay draw check tell inspect expand sweep help : Bool) → help ≡ false
-    → option_map_or (λ s. level_fault s [] nothing_held words false []) (met run threads replay draw check tell inspect expand sweep help) [] ≡ []
-    → is_some (option_map (λ s. rows_at s words) (met run threads replay draw check tell inspect expand sweep help)) ≡ true
-    → is_line (option_map (λ s. rows_at s words) (met run threads replay draw check tell inspect expand sweep help)) ≡ true
-met_line words true threads replay draw check tell inspect expand sweep help no_help none some = rw (has_value (codes "run") (codes "FILE") _ out_apart words none) refl
-met_line words false true replay draw check tell inspect expand sweep help no_help none some = rw (has_value (codes "threads") (codes "FILE") _ workers_apart words none) refl
-met_line words false false true draw check tell inspect expand sweep help no_help none some = rw (has_value (codes "replay") (codes "T") _ (help_apart (codes "T") refl) words none) refl
-met_line words false false false true check tell inspect expand sweep help no_help none some = rw (has_value (codes "draw") (codes "T") _ html_apart words none) refl
-met_line words false false false false true tell inspect expand sweep help no_help none some = rw (has_value (codes "check") (codes "FILE") _ short_apart words none) refl
-met_line words false false false false false true inspect expand sweep help no_help none some = rw (has_value (codes "tell") (codes "T") _ (help_apart (codes "T") refl) words none) refl
-met_line words false false false false false false true expand sweep help no_help none some = rw (has_value (codes "inspect") (codes "T") _ at_apart words none) refl
-met_line words false false false false false false false true sweep help no_help none some = rw (has_value (codes "expand") (codes "FILE") _ (help_apart (codes "FILE") refl) words none) refl
-met_line words false false false false false false false false true help no_help none some = rw (has_value (codes "sweep") (codes "FILE") _ sweep_apart words none) refl
-met_line words false false false false false false false false false true no_help none some = absurd (true≢false no_help)
-met_line words false false false false false false false false false false no_help none some = some
+met_line : (words : List Text) (run threads replay draw check tell inspect recover expand sweep help : Bool) → help ≡ false
+    → option_map_or (λ s. level_fault s [] nothing_held words false []) (met run threads replay draw check tell inspect recover expand sweep help) [] ≡ []
+    → is_some (option_map (λ s. rows_at s words) (met run threads replay draw check tell inspect recover expand sweep help)) ≡ true
+    → is_line (option_map (λ s. rows_at s words) (met run threads replay draw check tell inspect recover expand sweep help)) ≡ true
+met_line words true threads replay draw check tell inspect recover expand sweep help no_help none some = rw (has_value (codes "run") (codes "FILE") _ out_apart words none) refl
+met_line words false true replay draw check tell inspect recover expand sweep help no_help none some = rw (has_value (codes "threads") (codes "FILE") _ workers_apart words none) refl
+met_line words false false true draw check tell inspect recover expand sweep help no_help none some = rw (has_value (codes "replay") (codes "T") _ (help_apart (codes "T") refl) words none) refl
+met_line words false false false true check tell inspect recover expand sweep help no_help none some = rw (has_value (codes "draw") (codes "T") _ html_apart words none) refl
+met_line words false false false false true tell inspect recover expand sweep help no_help none some = rw (has_value (codes "check") (codes "FILE") _ short_apart words none) refl
+met_line words false false false false false true inspect recover expand sweep help no_help none some = rw (has_value (codes "tell") (codes "T") _ (help_apart (codes "T") refl) words none) refl
+met_line words false false false false false false true recover expand sweep help no_help none some = rw (has_value (codes "inspect") (codes "T") _ at_apart words none) refl
+met_line words false false false false false false false true expand sweep help no_help none some = rw (has_value (codes "recover") (codes "T") _ recover_apart words none) refl
+met_line words false false false false false false false false true sweep help no_help none some = rw (has_value (codes "expand") (codes "FILE") _ (help_apart (codes "FILE") refl) words none) refl
+met_line words false false false false false false false false false true help no_help none some = rw (has_value (codes "sweep") (codes "FILE") _ sweep_apart words none) refl
+met_line words false false false false false false false false false false true no_help none some = absurd (true≢false no_help)
+met_line words false false false false false false false false false false false no_help none some = some
 
 help_not_met : (name : Text) → bytes_eq name (codes "help") ≡ false → answers_to name (codes "help", []) ≡ false
 help_not_met name no_help = go (bytes_eq (codes "help") name) refl
@@ -171,7 +181,7 @@ line_at : (stop : Option (Text × List Text)) → IsNoHelp stop → entered_faul
 line_at None no_help none some = some
 line_at (Some (name, rest)) no_help none some =
     met_line rest (answers_to name (codes "run", [])) (answers_to name (codes "threads", [])) (answers_to name (codes "replay", [])) (answers_to name (codes "draw", []))
-    (answers_to name (codes "check", [])) (answers_to name (codes "tell", [])) (answers_to name (codes "inspect", [])) (answers_to name (codes "expand", [])) (answers_to name (codes "sweep", []))
+    (answers_to name (codes "check", [])) (answers_to name (codes "tell", [])) (answers_to name (codes "inspect", [])) (answers_to name (codes "recover", [])) (answers_to name (codes "expand", [])) (answers_to name (codes "sweep", []))
     (answers_to name (codes "help", [])) (help_not_met name no_help) none some
 
 -- a subcommand is wanted

@@ -10,7 +10,7 @@ use Rattle.clap.specs.declared.builder.value_parser.ValueParser.TheVariants.{Uns
 use Rattle.clap.specs.declared.builder.action.ArgAction.TheVariants.{SetTrue}
 use Rattle.clap.specs.declared.error.kind.ErrorKind.TheVariants.{ValueValidation}
 use Rattle.sim_args.specs.declared.command.CommandLine.{CommandLine}
-use Rattle.sim_args.specs.declared.command.CommandLine.TheVariants.{Run, Threads, Replay, Draw, Check, Tell, Inspect, Expand, Sweep}
+use Rattle.sim_args.specs.declared.command.CommandLine.TheVariants.{Run, Threads, Replay, Draw, Check, Tell, Inspect, Recover, Expand, Sweep}
 use Rattle.sim_args.specs.declared.command.SweepWords.{SweepWords}
 use Rattle.sim_args.specs.Numbers.{IsGiven, is_given_well, keys_in}
 
@@ -34,6 +34,10 @@ workers_option = record (new_rule (codes "workers")) {
 -- `--at K`
 abbrev pub at_option : Rule
 at_option = record (new_rule (codes "at")) { long = Some (codes "at"); value_names = 1 }
+
+-- `--every N`
+abbrev pub every_option : Rule
+every_option = record (new_rule (codes "every")) { long = Some (codes "every"); value_names = 1 }
 
 -- `--json`
 abbrev pub json_flag : Rule
@@ -72,6 +76,10 @@ tell_app = app_with (codes "tell") (codes "T")
 
 abbrev pub inspect_app : App
 inspect_app = with_rule (with_rule (app_with (codes "inspect") (codes "T")) at_option) json_flag
+
+abbrev pub recover_app : App
+recover_app =
+    with_rule (with_rule (app_with (codes "recover") (codes "T")) at_option) every_option
 
 abbrev pub expand_app : App
 expand_app = app_with (codes "expand") (codes "FILE")
@@ -123,11 +131,13 @@ bare_app =
 
 -- `nomadsim run FILE [--out T]`, `nomadsim threads FILE [--workers N] [--out T]`,
 -- `nomadsim replay T`, `nomadsim draw T [--html]`, `nomadsim check FILE [--short]`,
--- `nomadsim tell T`, `nomadsim inspect T [--at K] [--json]`, `nomadsim expand FILE`,
+-- `nomadsim tell T`, `nomadsim inspect T [--at K] [--json]`,
+-- `nomadsim recover T [--at K] [--every N]`, `nomadsim expand FILE`,
 -- `nomadsim sweep FILE --keys A..B [--drop P] [--repeat P] [--jobs N] [--csv]`
 abbrev pub nomadsim_app : App
 nomadsim_app =
     with_subcommand
+    (with_subcommand
     (with_subcommand
     (with_subcommand
     (with_subcommand
@@ -138,6 +148,7 @@ nomadsim_app =
     check_app.top)
     tell_app.top)
     inspect_app.top)
+    recover_app.top)
     expand_app.top)
     sweep_app.top
 
@@ -198,6 +209,10 @@ IsLineFor name rows (Inspect file at json) =
     (name ≡ codes "inspect") × (first_of (codes "T") rows ≡ Some file.now)
     × (first_of (codes "at") rows ≡ option_map (λ k. k.now) at)
     × (json ≡ says_yes (first_of (codes "json") rows))
+IsLineFor name rows (Recover file at every) =
+    (name ≡ codes "recover") × (first_of (codes "T") rows ≡ Some file.now)
+    × (first_of (codes "at") rows ≡ option_map (λ k. k.now) at)
+    × (first_of (codes "every") rows ≡ option_map (λ n. n.now) every)
 IsLineFor name rows (Expand file) =
     (name ≡ codes "expand") × (first_of (codes "FILE") rows ≡ Some file.now)
 IsLineFor name rows (Sweep file words) =
@@ -229,6 +244,7 @@ IsPlay (Draw file html) = ⊥
 IsPlay (Check file short) = ⊥
 IsPlay (Tell file) = ⊥
 IsPlay (Inspect file at json) = ⊥
+IsPlay (Recover file at every) = ⊥
 IsPlay (Expand file) = ⊥
 IsPlay (Sweep file words) = ⊥
 
@@ -245,6 +261,7 @@ IsThreads (Draw file html) = ⊥
 IsThreads (Check file short) = ⊥
 IsThreads (Tell file) = ⊥
 IsThreads (Inspect file at json) = ⊥
+IsThreads (Recover file at every) = ⊥
 IsThreads (Expand file) = ⊥
 IsThreads (Sweep file words) = ⊥
 

@@ -5,11 +5,11 @@ ghost use Rattle.clap.specs.declared.builder.command.Command.TheViews.{out-Comma
 ghost use Rattle.clap.specs.declared.error.kind.ErrorKind.TheVariants.{OutOfMemory, ValueValidation};
 ghost use Rattle.sim_args.specs.Inner.Commands.{IsMade};
 ghost use Rattle.sim_args.specs.Inner.Lines.{complaint_text, is_line, is_taken};
-ghost use Rattle.sim_args.specs.Words.{AreSweepWords, AreWorkers, AskFor, IsNamedLine, IsLineFor, app_with, are_sweep_words, are_workers, at_option, bare_app, check_app, csv_flag, draw_app, expand_app, html_flag, inspect_app, jobs_option, json_flag, keys_app, keys_option, nomadsim_app, out_option, percent_option, percents_app, replay_app, required_word, run_app, says_yes, short_flag, sweep_app, tell_app, threads_app, words_fault, workers_option};
+ghost use Rattle.sim_args.specs.Words.{AreSweepWords, AreWorkers, AskFor, IsNamedLine, IsLineFor, app_with, are_sweep_words, are_workers, at_option, bare_app, check_app, csv_flag, draw_app, every_option, expand_app, html_flag, inspect_app, jobs_option, json_flag, keys_app, keys_option, nomadsim_app, out_option, percent_option, percents_app, recover_app, replay_app, required_word, run_app, says_yes, short_flag, sweep_app, tell_app, threads_app, words_fault, workers_option};
 
 use crate::help::{
-    ABOUT, CHECKS, DRAWS, ENDS, EXPANDS, INSPECTS, NO_COUNT, NO_KEYS, NO_NUMBER, REPLAYS, SCENARIO,
-    SHORT, STEPS, SWEEPS, TELLS, THREADS, TRANSCRIPT, VERSION,
+    ABOUT, CHECKS, DRAWS, ENDS, EXPANDS, INSPECTS, NO_COUNT, NO_KEYS, NO_NUMBER, RECOVERS, REPLAYS,
+    SCENARIO, SHORT, STEPS, SWEEPS, TELLS, THREADS, TRANSCRIPT, VERSION,
 };
 use crate::numbers::{keys_of, number_given};
 use clap::builder::ValueParser;
@@ -95,6 +95,16 @@ pub enum CommandLine<'a> {
         /// Whether as JSON.
         json: bool,
     },
+    /// `recover T [--at K] [--every N]`: what brings the group of a transcript back after some
+    /// events is told.
+    Recover {
+        /// The transcript's file, `-` for the standard input.
+        file: &'a str,
+        /// After how many events, as it was given; after all where the words don't say.
+        at: Option<&'a str>,
+        /// Where it is told of many moments, how many events lie between them, as it was given.
+        every: Option<&'a str>,
+    },
     /// `expand FILE`: the plain form of a scenario in short form is printed.
     Expand {
         /// The short scenario's file, `-` for the standard input.
@@ -147,6 +157,15 @@ fn at_arg<'a>(alloc: Global) -> Arg<'a>
 {
     Arg::new(alloc, "at").long("at").value_name("K").help(
         "After how many events, from 0; after all where it is left out",
+    )
+}
+
+fn every_arg<'a>(alloc: Global) -> Arg<'a>
+    ensures rule { rule_of result ≡ every_option }
+    ensures local { result.global ≡ false }
+{
+    Arg::new(alloc, "every").long("every").value_name("N").help(
+        "Tells of each N-th moment, from the first on, and of the last",
     )
 }
 
@@ -305,6 +324,21 @@ fn inspect_command<'a>(alloc: Global) -> Result<Command<'a>, Error>
     with_arg(command, json_arg(alloc))
 }
 
+fn recover_command<'a>(alloc: Global) -> Result<Command<'a>, Error>
+    ensures { IsMade recover_app result }
+{
+    let command = begun(
+        alloc,
+        "recover",
+        "Says what brings the group of a transcript back after some events",
+        RECOVERS,
+        "T",
+        TRANSCRIPT,
+    );
+    let command = with_arg(command, at_arg(alloc));
+    with_arg(command, every_arg(alloc))
+}
+
 fn expand_command<'a>(alloc: Global) -> Result<Command<'a>, Error>
     ensures { IsMade expand_app result }
 {
@@ -430,6 +464,7 @@ fn program<'a>(alloc: Global) -> Result<Command<'a>, Error>
     let whole = with_part(whole, check_command(alloc));
     let whole = with_part(whole, tell_command(alloc));
     let whole = with_part(whole, inspect_command(alloc));
+    let whole = with_part(whole, recover_command(alloc));
     let whole = with_part(whole, expand_command(alloc));
     let whole = with_part(whole, sweep_command(alloc));
     whole
@@ -533,6 +568,17 @@ fn inspect_line<'a>(given: &ArgMatches<'a>) -> Option<CommandLine<'a>>
     Some(CommandLine::Inspect { file, at, json })
 }
 
+fn recover_line<'a>(given: &ArgMatches<'a>) -> Option<CommandLine<'a>>
+    ensures some { IfSome result (IsLineFor (codes "recover") (rows_of (found_of given.now))) }
+    ensures none { IfNone result (is_line (Some (codes "recover", rows_of (found_of given.now)))
+        ≡ false) }
+{
+    let file = value_of(given, "T")?;
+    let at = value_of(given, "at");
+    let every = value_of(given, "every");
+    Some(CommandLine::Recover { file, at, every })
+}
+
 fn expand_line<'a>(given: &ArgMatches<'a>) -> Option<CommandLine<'a>>
     ensures some { IfSome result (IsLineFor (codes "expand") (rows_of (found_of given.now))) }
     ensures none { IfNone result (is_line (Some (codes "expand", rows_of (found_of given.now)))
@@ -584,6 +630,7 @@ fn line_of<'a>(matches: &ArgMatches<'a>) -> Option<CommandLine<'a>>
         "check" => check_line(given),
         "tell" => tell_line(given),
         "inspect" => inspect_line(given),
+        "recover" => recover_line(given),
         "expand" => expand_line(given),
         "sweep" => sweep_line(given),
         _ => None,

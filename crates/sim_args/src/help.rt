@@ -20,13 +20,14 @@ Examples:
   nomadsim draw election.txt > election.svg
   nomadsim tell election.txt
   nomadsim inspect election.txt --at 12
+  nomadsim recover election.txt --every 1
   nomadsim check data/first-election.json
   nomadsim expand data/bad-net.short > bad-net.json
   nomadsim sweep data/bad-net.json --keys 0..99 --drop 40
 
-'-' for FILE, and for the transcript that 'replay', 'draw', 'tell' and 'inspect'
-take, is the standard input. 'nomadsim run --help' says what a scenario's file holds, and
-'nomadsim check FILE' what is wrong with one.
+'-' for FILE, and for the transcript that 'replay', 'draw', 'tell', 'inspect'
+and 'recover' take, is the standard input. 'nomadsim run --help' says what a
+scenario's file holds, and 'nomadsim check FILE' what is wrong with one.
 
 Exit status:
   0  every step was taken, or whatever else was asked for was done
@@ -241,6 +242,34 @@ exit status is 2.
 Example:
   nomadsim inspect election.txt --at 12";
 
+pub(crate) const RECOVERS: &str = "\
+T, '-' for the standard input, is a transcript, as 'nomadsim run FILE --out T'
+writes it; 'nomadsim replay --help' says what it holds. The first K events are
+taken, all without --at, and then the group is brought back: each server that is
+down restarts; the server with the best log stands, where it does not lead; and
+it beats until every server has applied its whole log. What it sends meanwhile
+comes, and what is answered; no message that was sent before does. It is proved
+that this is always enough: at most two timeouts, and 1 + N (2 L + 4) beats, N
+being the number of servers, and L that of the entries of that server's log.
+
+What is printed says which server leads then; how many restarts, timeouts, beats
+and messages that took, and how many events together; and then these events, a
+line each, as steps that can be put behind those of a scenario.
+
+With --every N it is told of the group after 0, N, 2N, .. and K events, a line
+each, and then which of these moments is the farthest: the one from which it
+takes the most events, of several the first. Each is played from the beginning,
+so there are at most 1000 of them.
+
+The exit status is 2 where K is no number of events from 0 to that of T, where N
+is no number or makes more than 1000 lines, and where a server has no room for
+two more terms or two more entries. It is 3 where there was no memory, for an
+actor of the group too. Nothing is printed then but what is wrong.
+
+Examples:
+  nomadsim recover election.txt --at 12
+  nomadsim recover election.txt --every 1";
+
 pub(crate) const CHECKS: &str = "\
 The file and each of its steps are read, and no step is taken. What is wrong is
 printed: the first thing in a file that holds no scenario, else of each step
@@ -276,6 +305,12 @@ also
                   beat S      where others that are up have applied less
                 with a 'flow' behind it where messages are in flight then
     settle N    the same, up to N times, N from 0 to 18446744073709551615
+    settle elect
+                one server comes to lead: of those that are up the one with the
+                best log stands, where it does not lead, and beats until all of
+                them have applied its whole log; each message that it sends
+                meanwhile comes by a 'deliver', and so does each answer; nothing
+                is done where no quorum is up, nor past the first 10000 steps
 and objects of exactly the keys \"repeat\", a number, and \"steps\", a list of the
 same kind, whose steps are taken so many times; there are at most 1000000 steps
 in the end, and the lines of those that stand in the lists have at most 33554432

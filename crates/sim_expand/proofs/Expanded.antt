@@ -1,7 +1,8 @@
 -- Steps that a group takes, one behind the other.
 use Rattle.std.proofs.Common.{◌≡◌, ◌∙◌, ◌<◌, ◌≤◌, ◌+◌, ◌++◌, ◌∷◌, ℕ, List, [], ap, arith, get_or, inl, inr, length, map, subst, sum_by, sym, take}
 use Rattle.std.specs.List.{All}
-use Rattle.std.proofs.lemmas.List.{get_or-map, length-map, map-append, take-map, take_more}
+use Rattle.std.proofs.lemmas.List.{get_or-map, length-map, length-take, map-append, take-map, take_more}
+use Rattle.std.proofs.Math.Nat.{min-le_left}
 use Rattle.std.proofs.lemmas.List.Sums.{sum_by-append, sum_by-cons, sum_by-take-le}
 use Rattle.rows.specs.declared.node.NodeSpec.{NodeSpec}
 use Rattle.rows.specs.declared.refusal.Refusal.{Refusal}
@@ -11,13 +12,18 @@ use Rattle.sim_expand.specs.declared.expanding.Taken.{Taken}
 use Rattle.sim_expand.specs.declared.short.ShortStep.{ShortStep}
 use Rattle.sim_expand.specs.Expanded.{LinesOf}
 use Rattle.sim_expand.specs.Inner.Taking.{WhyNoShort}
-use Rattle.sim_expand.specs.ShortSteps.{AsItStands, Settles, Short, most_lines, short_step}
+use Rattle.sim_expand.specs.ShortSteps.{AsItStands, Settles, Elects, Short, most_elected, most_lines, short_step}
 use Rattle.sim_expand.specs.Stops.{IsGoodShort, WhyNotExpanded}
 
 -- no step comes to more lines than it may
 pub lines_within : (step : Short) (own : List (List ℕ)) → LinesOf step own → length own ≤ most_lines step
 lines_within (AsItStands line) own is = let one : length own ≡ 1 = ap length is in omega (arith, one)
 lines_within (Settles count) own few = few
+lines_within Elects own are =
+    let few : length own ≡ length (take most_elected are.lines) = ap length are.first in
+    let cut = length-take most_elected are.lines in
+    let least = min-le_left most_elected (length are.lines) in
+    omega (arith, few, cut, least)
 
 -- one step more
 one_more_step : (steps : List Short) (step : Short) → sum_by most_lines (steps ++ step ∷ []) ≡ sum_by most_lines steps + most_lines step

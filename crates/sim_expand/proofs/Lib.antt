@@ -10,3 +10,4 @@ pub mod Leading
 pub mod Tasks
 pub mod Waiting
 pub mod GroupStandings
+pub mod Elections

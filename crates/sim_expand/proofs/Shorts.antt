@@ -1,8 +1,9 @@
 -- What the values among the steps of a scenario in short form come to.
-use Rattle.std.proofs.Common.{◌≡◌, ◌≢◌, ◌∙◌, ◌+◌, ◌*◌, ◌-◌, ◌<◌, ◌≤◌, ◌++◌, ◌∷◌, ℕ, zero, suc, List, [], None, Some, ap, ap₂, append_assoc, arith, codes, decimal, get_or, inl, inr, length, length-append, map, refl, subst, sum_by, sym, take}
+use Rattle.std.proofs.Common.{◌≡◌, ◌≢◌, ◌∙◌, ◌+◌, ◌*◌, ◌-◌, ◌<◌, ◌≤◌, ◌^◌, ◌++◌, ◌∷◌, ℕ, zero, suc, List, [], None, Some, ap, ap₂, append_assoc, arith, codes, decimal, get_or, inl, inr, length, length-append, map, refl, subst, sum_by, sym, take}
 use Rattle.std.proofs.lemmas.List.{append-nil, append_cancel_left, get_or-map, length-map, map-append, take-map, take_more}
 use Rattle.std.proofs.lemmas.List.Sums.{sum_by-append}
-use Rattle.std.proofs.lemmas.Fmt.{decimal_injective}
+use Rattle.std.proofs.lemmas.Fmt.{decimal_injective, decimal_is_IsNumeral}
+use Rattle.std.proofs.lemmas.Str.Parse.{digit_at}
 use Rattle.std.proofs.Math.Nat.{suc-mul}
 use Rattle.std.specs.List.{repeat}
 use Rattle.serde_json.specs.Data.{Data, Items, null, boolean, number, string, array, object}
@@ -14,11 +15,19 @@ use Rattle.sim_expand.specs.declared.short.ShortStep.{ShortStep}
 use Rattle.sim_expand.specs.declared.short.Total.{Total}
 use Rattle.sim_expand.specs.EachInTurn.{OfEach}
 use Rattle.sim_expand.specs.Inner.Totals.{IsCounted, IsTotal}
-use Rattle.sim_expand.specs.ShortSteps.{Short, AsItStands, Settles, line_bytes, short_step}
+use Rattle.sim_expand.specs.ShortSteps.{Short, AsItStands, Settles, Elects, line_bytes, short_step}
 use Rattle.sim_expand.specs.Shorts.{AreFew, AreSteps, ComesTo, IsOneStep, IsRepeat, IsShortLine}
 use Rattle.sim_expand.proofs.EachInTurn.{begins_of_each, of_one, of_one_more, same_of_each}
 
 -- ---- one value
+
+-- no number is written so
+no_number : (n : ℕ) → n < 2 ^ 64 → decimal n ≡ codes "elect" → ⊥
+no_number n lt is =
+    let first : 0 < length (decimal n) = rw is (omega arith) in
+    let digit = digit_at (decimal n) 0 (decimal_is_IsNumeral n lt).0.1 first in
+    let read : get_or (decimal n) 0 0 ≡ 101 = ap (λ (word : List ℕ). get_or word 0 0) is in
+    omega (arith, digit, read)
 
 same_line : (s t : Short) (line : List ℕ) → IsShortLine s line → IsShortLine t line → s ≡ t
 same_line (AsItStands a) (AsItStands b) line is too = ap AsItStands (is.0 ∙ sym too.0)
@@ -36,6 +45,17 @@ same_line (Settles (Some m)) (Settles None) line is too =
 same_line (Settles (Some m)) (Settles (Some n)) line is too =
     let same : decimal m ≡ decimal n = append_cancel_left (codes "settle ") (decimal m) (decimal n) (sym is.1 ∙ too.1) in
     ap (λ k. Settles (Some k)) (decimal_injective m n is.0 too.0 same)
+same_line (AsItStands a) Elects line is too = absurd (is.1 (inr (codes "elect", too)))
+same_line Elects (AsItStands b) line is too = absurd (too.1 (inr (codes "elect", is)))
+same_line (Settles None) Elects line is too =
+    let lengths : length (codes "settle") ≡ length (codes "settle elect") = ap length (sym is ∙ too) in
+    absurd (omega (arith, lengths))
+same_line Elects (Settles None) line is too =
+    let lengths : length (codes "settle") ≡ length (codes "settle elect") = ap length (sym too ∙ is) in
+    absurd (omega (arith, lengths))
+same_line (Settles (Some n)) Elects line is too = absurd (no_number n is.0 (append_cancel_left (codes "settle ") (decimal n) (codes "elect") (sym is.1 ∙ too)))
+same_line Elects (Settles (Some n)) line is too = absurd (no_number n too.0 (append_cancel_left (codes "settle ") (decimal n) (codes "elect") (sym too.1 ∙ is)))
+same_line Elects Elects line is too = refl
 
 same_one : (d : Data) (a b : List Short) → IsOneStep d a → IsOneStep d b → a ≡ b
 same_one d a b is too =

@@ -13,7 +13,7 @@ use Rattle.sim_play.specs.Plays.{IsNewPlay}
 use Rattle.sim_play.proofs.Steps.{one_more_played}
 use Rattle.sim_expand.specs.declared.expanding.Taken.{Taken}
 use Rattle.sim_expand.specs.Expanded.{AreTaken}
-use Rattle.sim_expand.specs.ShortSteps.{Settles, most_lines}
+use Rattle.sim_expand.specs.ShortSteps.{Settles, Elects, most_elected, most_lines}
 use Rattle.sim_expand.specs.Inner.Taking.{StandsAsTaken, TakesIf, TakesMore, TakesUpTo, WhyNoLine, WhyNoMore, WhyNoShort}
 
 -- a new group took no line
@@ -46,6 +46,10 @@ more_and_more a b c own others first next = record {
 pub one_line : (a b : Taken) (line : List ℕ) → TakesMore a (line ∷ []) b → TakesUpTo 1 a b
 one_line a b line more = (line ∷ [], omega arith, more)
 
+-- just these lines
+pub some_lines : (own : List (List ℕ)) (a b : Taken) → TakesMore a own b → TakesUpTo (length own) a b
+some_lines own a b more = (own, omega arith, more)
+
 pub some_and_some : (m n : ℕ) (a b c : Taken) → TakesUpTo m a b → TakesUpTo n b c → TakesUpTo (m + n) a c
 some_and_some m n a b c first next =
     (first.0 ++ next.0, omega (arith, length-append first.0 next.0, first.1, next.1), more_and_more a b c first.0 next.0 first.2 next.2)
@@ -77,6 +81,10 @@ pub stops_with_more : (m n : ℕ) (t : Taken) (r : Refusal) → m ≤ n → WhyN
 stops_with_more m n t r within (inl memory) = inl memory
 stops_with_more m n t r within (inr past) = inr (past.0, omega (arith, within, past.1))
 
+pub if_stops_with_more : {X : Type 0} (r : Result X Refusal) (m n : ℕ) (t : Taken) → m ≤ n → IfErr r (WhyNoMore m t) → IfErr r (WhyNoMore n t)
+if_stops_with_more (Ok x) m n t within why = tt
+if_stops_with_more (Err e) m n t within why = stops_with_more m n t e within why
+
 pub if_stops_behind : {X : Type 0} (r : Result X Refusal) (m n most : ℕ) (a b : Taken) → m + n ≤ most → TakesUpTo m a b → IfErr r (WhyNoMore n b) → IfErr r (WhyNoMore most a)
 if_stops_behind (Ok x) m n most a b within some why = tt
 if_stops_behind (Err e) m n most a b within some why = stops_with_more (m + n) most a e within (stops_behind m n a b e some why)
@@ -91,6 +99,11 @@ pub if_settles_stops : {X : Type 0} (r : Result X Refusal) (count : Option ℕ) 
 if_settles_stops (Ok x) count t why = tt
 if_settles_stops (Err e) count t (inl memory) = inl memory
 if_settles_stops (Err e) count t (inr past) = inr (past.0, inr past.1)
+
+pub if_elects_stops : {X : Type 0} (r : Result X Refusal) (t : Taken) → IfErr r (WhyNoMore most_elected t) → IfErr r (WhyNoShort Elects t)
+if_elects_stops (Ok x) t why = tt
+if_elects_stops (Err e) t (inl memory) = inl memory
+if_elects_stops (Err e) t (inr past) = inr (past.0, inr past.1)
 
 pub if_step_stops : {X : Type 0} (r : Result X Refusal) (line : List ℕ) (t : Taken) → IsStepLine line → IfErr r (WhyNoLine line t) → IfErr r (WhyNoMore 1 t)
 if_step_stops (Ok x) line t is why = tt

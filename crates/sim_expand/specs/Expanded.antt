@@ -1,12 +1,14 @@
 -- Which steps a scenario in short form takes.
-use Rattle.std.specs.Prelude.{◌≡◌, ◌≤◌, ℕ, List, [], ◌∷◌, false, length}
+use Rattle.std.specs.Prelude.{◌≡◌, ◌≤◌, ℕ, List, [], ◌∷◌, false, length, take}
 use Rattle.rows.specs.declared.node.NodeSpec.{NodeSpec}
 use Rattle.sim_scenario.specs.declared.scenario.Settings.{Settings}
 use Rattle.sim_play.specs.declared.play.Play.{Play}
 use Rattle.sim_play.specs.Played.{LinesPlayed, Refused}
 use Rattle.sim_play.specs.PlaySteps.{StepRefused, StepTaken}
 use Rattle.sim_play.specs.Plays.{IsNewPlay}
-use Rattle.sim_expand.specs.ShortSteps.{Short, AsItStands, Settles, most_lines}
+use Rattle.group_model.specs.Worlds.{Event}
+use Rattle.sim_recovery.specs.Recoveries.{IsElection}
+use Rattle.sim_expand.specs.ShortSteps.{Short, AsItStands, Settles, Elects, most_elected, most_lines}
 
 -- a new group of these settings and nodes took these lines, in order, and stands so then; none of
 -- its actors lacked memory
@@ -17,8 +19,19 @@ pub record AreTaken (settings : Settings) (nodes : List NodeSpec) (lines : List 
   pub played : LinesPlayed StepTaken StepRefused lines first refused play
   pub found : play.lacked ≡ false
 
+-- the first lines of those by which a group of some run settles, whose servers that are up come to
+-- follow one of them; all, where they are few enough
+pub record AreElecting (own : List (List ℕ)) : Type 0 where
+  pub servers : ℕ
+  pub nodes : List NodeSpec
+  pub events : List Event
+  pub lines : List (List ℕ)
+  pub election : IsElection servers nodes events lines
+  pub first : own ≡ take most_elected lines
+
 -- the line of a step that is taken as it stands, and no other; of a `settle` any lines, but not more
--- than it comes to at most
+-- than it comes to at most; and of a `settle elect` those by which a group settles
 abbrev pub LinesOf : Short → List (List ℕ) → Type 0
 LinesOf (AsItStands line) own = own ≡ line ∷ []
 LinesOf (Settles count) own = length own ≤ most_lines (Settles count)
+LinesOf Elects own = AreElecting own

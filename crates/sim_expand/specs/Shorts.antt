@@ -7,9 +7,9 @@ use Rattle.serde_json.specs.View.{items_of}
 use Rattle.sim_scenario.specs.Objects.{AreNodes, HasKeys, HasSettings, HasSingleKeys, list_at, whole_number_at}
 use Rattle.sim_expand.specs.declared.short.ShortScenario.{ShortScenario}
 use Rattle.sim_expand.specs.EachInTurn.{OfEach}
-use Rattle.sim_expand.specs.ShortSteps.{Short, AsItStands, Settles, line_bytes, short_step}
+use Rattle.sim_expand.specs.ShortSteps.{Short, AsItStands, Settles, Elects, line_bytes, short_step}
 
--- the line of a `settle`, with a number or without, or of what begins as one
+-- the line of a `settle`, with a number, with `elect` or without, or of what begins as one
 abbrev pub BeginsAsSettle : List ℕ → Type 0
 BeginsAsSettle line = (line ≡ codes "settle") ⊎ ((rest : List ℕ) × (line ≡ codes "settle " ++ rest))
 
@@ -19,6 +19,7 @@ abbrev pub IsShortLine : Short → List ℕ → Type 0
 IsShortLine (AsItStands own) line = (own ≡ line) × ¬ BeginsAsSettle line
 IsShortLine (Settles None) line = line ≡ codes "settle"
 IsShortLine (Settles (Some count)) line = (count < 2 ^ 64) × (line ≡ codes "settle " ++ decimal count)
+IsShortLine Elects line = line ≡ codes "settle elect"
 
 -- ---- the values among the steps
 

@@ -7,12 +7,13 @@ use Rattle.rows.specs.declared.refusal.Refusal.TheVariants.{NoMemory, OutOfRange
 use Rattle.sim_scenario.specs.Complaints.{IsStepLine}
 use Rattle.sim_scenario.specs.declared.scenario.Settings.{Settings}
 use Rattle.sim_play.specs.Plays.{MakesGroup}
-use Rattle.sim_expand.specs.ShortSteps.{Short, AsItStands, Settles, most_lines}
+use Rattle.sim_expand.specs.ShortSteps.{Short, AsItStands, Settles, Elects, most_lines}
 
 -- what is taken as it stands is the line of a step
 abbrev pub IsGoodShort : Short → Type 0
 IsGoodShort (AsItStands line) = IsStepLine line
 IsGoodShort (Settles count) = Unit {0}
+IsGoodShort Elects = Unit {0}
 
 -- there is such a group, each line that is taken as it stands is a step's, and the steps come to
 -- 1,000,000 lines at most

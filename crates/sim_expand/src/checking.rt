@@ -87,7 +87,7 @@ fn is_good(alloc: Global, step: &ShortStep) -> Result<bool, NoMemory>
 {
     match step {
         ShortStep::Plain(line) => is_step(alloc, line.as_str()),
-        ShortStep::Settle(_) => Ok(true),
+        ShortStep::Settle(_) | ShortStep::Elect => Ok(true),
     }
 }
 
@@ -205,7 +205,7 @@ fn look_at_value(
 
 // What is wrong with the line of a step, if anything is.
 fn line_flaw(alloc: Global, line: &str, place: &Place<'_>) -> Result<Option<Flaw>, NoMemory> {
-    if line == "settle" {
+    if line == "settle" || line == "settle elect" {
         return Ok(None);
     }
     match line.strip_prefix("settle ") {

@@ -1,15 +1,15 @@
 //! The steps that a scenario in short form takes.
-ghost use Rattle.std.specs.Prelude.{◌≡◌, ◌≤◌, ◌*◌, ◌∷◌, [], ℕ, IfErr, IfOk, List, OnOk, length};
+ghost use Rattle.std.specs.Prelude.{◌≡◌, ◌≤◌, ◌*◌, ◌∷◌, [], ℕ, IfErr, IfOk, List, OnOk, length, take};
 ghost use Rattle.std.specs.Prelude.{map, string_bytes};
 ghost use Rattle.std.specs.List.{All};
 ghost use Rattle.world.specs.GroupSteps.{WhyNoGroup};
 ghost use Rattle.sim_scenario.specs.Complaints.{IsStepLine};
 ghost use Rattle.sim_play.specs.declared.play.Play.{Play};
 ghost use Rattle.sim_expand.specs.EachInTurn.{OfEach};
-ghost use Rattle.sim_expand.specs.Expanded.{AreTaken, LinesOf};
+ghost use Rattle.sim_expand.specs.Expanded.{AreElecting, AreTaken, LinesOf};
 ghost use Rattle.sim_expand.specs.Inner.Taking.{StandsAsTaken, TakesIf, TakesMore};
 ghost use Rattle.sim_expand.specs.Inner.Taking.{TakesUpTo, WhyNoLine, WhyNoShort, WhyNoMore};
-ghost use Rattle.sim_expand.specs.ShortSteps.{most_at_once, short_step};
+ghost use Rattle.sim_expand.specs.ShortSteps.{most_at_once, most_elected, short_step};
 ghost use Rattle.sim_expand.specs.Stops.{WhyNotExpanded};
 
 use crate::settling::{Left, beat_line, next_of, plan_line, pull_lines, take_line, work_line};
@@ -18,11 +18,15 @@ use crate::standing::{Standing, standing_of};
 use rows::{NodeSpec, Refusal};
 use sim_play::lines::play_line;
 use sim_play::play::Play;
+use sim_recovery::election;
 use sim_scenario::scenario::Settings;
 use std::alloc::Global;
 
 // How often something is done at most where a `settle` has no number.
 const ROUNDS: u64 = 1_000;
+
+// How many steps a `settle elect` takes at most.
+const MOST_ELECTED: usize = 10_000;
 
 // How often in a row something is done at most that changes nothing, as where messages are lost.
 const MOST_IN_VAIN: u64 = 20;
@@ -39,8 +43,8 @@ struct Taken<'s> {
 }
 
 /// The steps that these take on a new group of these settings and nodes: each plain one as it
-/// stands, and for a `settle` those that it takes there, up to 65 for each time that it does
-/// something. Fails with 12 where there is no such group, where a plain step is none, or where they
+/// stands, for a `settle` those that it takes there, up to 65 for each time that it does something,
+/// and for a `settle elect` up to 10,000 by which the group settles there. Fails with 12 where there is no such group, where a plain step is none, or where they
 /// come to more than 1,000,000; with 1 where there is no memory, for an actor of the group too.
 pub fn expanded(
     alloc: Global,
@@ -68,6 +72,16 @@ fn left_in_vain(left: u64, was_in_vain: bool) -> u64 {
         left.saturating_sub(1)
     } else {
         MOST_IN_VAIN
+    }
+}
+
+// The first lines of an election, as many as are taken.
+fn first_elected(lines: &[String]) -> &[String]
+    ensures { result.now ≡ take most_elected lines.now }
+{
+    match lines.get(..MOST_ELECTED) {
+        Some(front) => front,
+        None => lines,
     }
 }
 
@@ -111,6 +125,7 @@ impl<'s> Taken<'s> {
         match step {
             ShortStep::Plain(line) => self.line(line.as_str()),
             ShortStep::Settle(count) => self.settle(count.unwrap_or(ROUNDS)),
+            ShortStep::Elect => self.elect(),
         }
     }
 
@@ -130,6 +145,21 @@ impl<'s> Taken<'s> {
         }
         self.lines.push(own)?;
         Ok(())
+    }
+
+    // Takes the steps by which the group settles, who is down staying so.
+    fn elect(&mut self) -> Result<(), Refusal>
+        requires { StandsAsTaken self.old }
+        ensures ok { OnOk result ((own : List (List ℕ)) × AreElecting own
+            × TakesMore self.old own self.new) }
+        ensures refused { IfErr result (WhyNoMore most_elected self.old) }
+    {
+        let servers = usize::from(self.settings.servers);
+        match election(self.alloc, servers, self.nodes, self.play.world.trace()) {
+            Ok(lines) => self.take_lines(first_elected(&lines)),
+            // A group of its size is made, unless there is no memory.
+            Err(_) => Err(Refusal::NoMemory),
+        }
     }
 
     // Does what is left to do, up to so many times, and until so many of them in a row changed
@@ -207,7 +237,7 @@ impl<'s> Taken<'s> {
     fn take_lines(&mut self, lines: &[String]) -> Result<(), Refusal>
         requires stands { StandsAsTaken self.old }
         requires steps { All IsStepLine (map string_bytes lines.now) }
-        ensures ok { OnOk result (TakesUpTo (length lines.now) self.old self.new) }
+        ensures ok { OnOk result (TakesMore self.old (map string_bytes lines.now) self.new) }
         ensures refused { IfErr result (WhyNoMore (length lines.now) self.old) }
     {
         for line in lines {

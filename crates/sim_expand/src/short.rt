@@ -35,6 +35,8 @@ pub enum ShortStep {
     /// `settle N`: up to N times something is done that is left to do; `settle` alone leaves the
     /// number out.
     Settle(Option<u64>),
+    /// `settle elect`: a server comes to lead, and the others that are up to follow it.
+    Elect,
 }
 
 /// A scenario in short form.
@@ -175,7 +177,7 @@ fn bytes_of(step: &ShortStep) -> usize
 {
     match step {
         ShortStep::Plain(line) => line.len(),
-        ShortStep::Settle(_) => 0,
+        ShortStep::Settle(_) | ShortStep::Elect => 0,
     }
 }
 
@@ -308,6 +310,7 @@ fn put_copy(alloc: Global, step: &ShortStep, steps: &mut Vec<ShortStep>) -> Resu
     let own = match step {
         ShortStep::Plain(line) => ShortStep::Plain(String::from_str(alloc, line.as_str())?),
         ShortStep::Settle(count) => ShortStep::Settle(*count),
+        ShortStep::Elect => ShortStep::Elect,
     };
     Ok(steps.push(own)?)
 }
@@ -331,6 +334,9 @@ fn step_of(alloc: Global, line: &str) -> Result<ShortStep, Refusal>
 {
     if line == "settle" {
         return Ok(ShortStep::Settle(None));
+    }
+    if line == "settle elect" {
+        return Ok(ShortStep::Elect);
     }
     match line.strip_prefix("settle ") {
         Some(word) => match read_number(word) {

@@ -7,7 +7,7 @@ use Rattle.sim_ending.specs.declared.fault.EndError.{EndError}
 use Rattle.sim_ending.specs.declared.fault.EndError.TheVariants as ends
 use Rattle.sim_files.specs.declared.fault.Fault.{Fault}
 use Rattle.sim_files.specs.declared.hint.Hint.{Hint}
-use Rattle.sim_files.specs.declared.fault.Fault.TheVariants.{CommandLine, CannotRead, CannotWrite, BadScenario, BadTranscript, NoSuchEvent, Percentages, NoMemory, Output}
+use Rattle.sim_files.specs.declared.fault.Fault.TheVariants.{CommandLine, CannotRead, CannotWrite, BadScenario, BadTranscript, NoSuchEvent, NoSuchStride, NoRoom, Percentages, NoMemory, Output}
 use Rattle.event_texts.specs.Transcripts.{IsFault, IsTranscript, Recorded}
 
 -- the words ask for help, or for the version
@@ -21,6 +21,8 @@ IsStatus (CannotWrite name) status = status ≡ 2
 IsStatus BadScenario status = status ≡ 2
 IsStatus (BadTranscript place hint) status = status ≡ 2
 IsStatus (NoSuchEvent events) status = status ≡ 2
+IsStatus (NoSuchStride events) status = status ≡ 2
+IsStatus NoRoom status = status ≡ 2
 IsStatus (Percentages lost repeated) status = status ≡ 2
 IsStatus NoMemory status = status ≡ 3
 IsStatus Output status = status ≡ 2

@@ -32,6 +32,13 @@ pub enum Fault<'a> {
     /// No number of events from 0 to that of the transcript, which this is, was given.
     #[error("nomadsim: --at has to be a whole number from 0 to {0}\n")]
     NoSuchEvent(usize),
+    /// No whole number from 1 on was given that makes at most 1,000 lines of a transcript's events,
+    /// of which there are so many.
+    #[error("nomadsim: --every has to be a whole number, for 1 to 1000 lines of {0} events\n")]
+    NoSuchStride(usize),
+    /// A server has no room for two more terms or two more entries.
+    #[error("nomadsim: a server has no room for two more terms or two more entries\n")]
+    NoRoom,
     /// So many of a hundred messages are to be lost, and so many to come again, which is more than a
     /// hundred together.
     #[error("nomadsim: drop {0} and repeat {1} are over 100 together\n")]
@@ -81,6 +88,8 @@ impl Fault<'_> {
             Fault::BadScenario => 2,
             Fault::BadTranscript(_, _) => 2,
             Fault::NoSuchEvent(_) => 2,
+            Fault::NoSuchStride(_) => 2,
+            Fault::NoRoom => 2,
             Fault::Percentages(_, _) => 2,
             Fault::NoMemory => 3,
             Fault::Output => 2,

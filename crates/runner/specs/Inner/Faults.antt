@@ -14,11 +14,13 @@ use Rattle.sim_expand.specs.ShortSteps.{short_step}
 use Rattle.sim_expand.specs.Shorts.{IsShortText}
 use Rattle.sim_expand.specs.Stops.{CanBeExpanded}
 use Rattle.sim_files.specs.declared.fault.Fault.{Fault}
-use Rattle.sim_files.specs.declared.fault.Fault.TheVariants.{CommandLine, BadScenario, NoSuchEvent, Percentages, NoMemory, Output}
+use Rattle.sim_files.specs.declared.fault.Fault.TheVariants.{CommandLine, BadScenario, NoSuchEvent, NoSuchStride, NoRoom, Percentages, NoMemory, Output}
 use Rattle.sim_draw.specs.declared.fault.DrawError.{DrawError}
 use Rattle.sim_draw.specs.declared.fault.DrawError.TheVariants as drawings
 use Rattle.sim_inspect.specs.declared.fault.InspectError.{InspectError}
 use Rattle.sim_inspect.specs.declared.fault.InspectError.TheVariants as looks
+use Rattle.sim_recovery.specs.declared.fault.RecoveryError.{RecoveryError}
+use Rattle.sim_recovery.specs.declared.fault.RecoveryError.TheVariants as ways
 use Rattle.sim_inspect.specs.declared.inspecting.Form.{Form}
 use Rattle.sim_inspect.specs.declared.inspecting.Form.TheVariants as forms
 use Rattle.runner.specs.Expansions.{TakesLines}
@@ -84,6 +86,13 @@ seeing_fault looks.Output events = Output
 seeing_fault looks.NoSuchEvent events = NoSuchEvent events
 seeing_fault looks.NoMemory events = NoMemory
 seeing_fault looks.Group events = NoMemory
+
+-- what a way back of a group after so many events fails with
+abbrev pub way_fault : RecoveryError → ℕ → Fault
+way_fault ways.NoMemory events = NoMemory
+way_fault ways.Group events = NoMemory
+way_fault ways.NoRoom events = NoRoom
+way_fault ways.TooMany events = NoSuchStride events
 
 -- the form that is wanted where JSON is wanted or not
 abbrev pub form_in : Bool → Form

@@ -18,8 +18,8 @@ is_line (Some named) =
     has_word (codes "run") (codes "FILE") named || (has_word (codes "threads") (codes "FILE") named
     || (has_word (codes "replay") (codes "T") named || (has_word (codes "draw") (codes "T") named
     || (has_word (codes "check") (codes "FILE") named || (has_word (codes "tell") (codes "T") named
-    || (has_word (codes "inspect") (codes "T") named || (has_word (codes "expand") (codes "FILE") named
-    || has_word (codes "sweep") (codes "FILE") named)))))))
+    || (has_word (codes "inspect") (codes "T") named || (has_word (codes "recover") (codes "T") named
+    || (has_word (codes "expand") (codes "FILE") named || has_word (codes "sweep") (codes "FILE") named))))))))
 
 -- whether a subcommand's name with its values asks for a line
 abbrev pub is_taken : Option (Text × List Row) → Bool

@@ -1,5 +1,5 @@
 use Rattle.std.proofs.Common.{◌∷◌, [], refl, string_bytes}
-use Rattle.sim_expand.proofs.Taking.{and_so, if_settles_stops}
+use Rattle.sim_expand.proofs.Taking.{and_so, if_elects_stops, if_settles_stops}
 use Rattle.sim_expand.proofs.expanding.Taken.take.Goals as goal
 
 pub returns-in-Plain-clause-ok : goal.returns-in-Plain-clause-ok
@@ -13,3 +13,9 @@ returns-in-Settle-clause-ok c = rw c.in-Settle.is (and_so c.settle.result c.sett
 
 pub returns-in-Settle-clause-refused : goal.returns-in-Settle-clause-refused
 returns-in-Settle-clause-refused c = rw c.in-Settle.is (if_settles_stops c.settle.result c.in-Settle.count c.args.self.now (rw c.unwrap_or.ensures at c.settle.ensures.refused))
+
+pub returns-in-Elect-clause-ok : goal.returns-in-Elect-clause-ok
+returns-in-Elect-clause-ok c = rw c.in-Elect.is c.elect.ensures.ok
+
+pub returns-in-Elect-clause-refused : goal.returns-in-Elect-clause-refused
+returns-in-Elect-clause-refused c = rw c.in-Elect.is (if_elects_stops c.elect.result c.args.self.now c.elect.ensures.refused)

@@ -1,0 +1,3 @@
+pub mod WaySteps
+pub mod Moments
+pub mod Greatest
