@@ -5,12 +5,11 @@ ghost use Rattle.raft_model.specs.Rafts.{Raft as AnyRaft, is_up};
 ghost use Rattle.world.specs.Inner.Room.{RoomAbove};
 ghost use Rattle.raft_core.specs.Steps.{Refines};
 ghost use Rattle.recovery.specs.Runs.{is_up_in};
-ghost use Rattle.recovery.specs.Inner.Spreads.{IsBest};
 ghost use Rattle.recovery.specs.Inner.Drives.{Ever, Known};
-ghost use Rattle.recovery.specs.Inner.Goings.{QuorumIsUp, QuorumLacks, RoomIsThere, RoomLacks, IsFull, HasPlace, is_older_log, IsOlder, IsServerOf, IsBetter};
+ghost use Rattle.recovery.specs.Inner.Goings.{QuorumIsUp, QuorumLacks, RoomIsThere, RoomLacks, IsFull, HasPlace, is_older_log, IsOlder, IsServerOf, LeadsAll, IsPreferred, IsBetter, IsBest};
 
 use crate::driven::Driven;
-use crate::reading::{is_up, server_at};
+use crate::reading::{highest, is_behind, is_up, leads, server_at};
 use machine::Machine;
 use raft_core::Raft;
 use rows::{Index, ServerId, Term};
@@ -106,26 +105,62 @@ fn is_older<D: Driven>(world: &D, one: ServerId, other: ServerId) -> bool
     }
 }
 
-/// The one of two servers that is up and has the newer log; the first where none is newer.
+/// Whether a server that is up leads, nobody who is up being in a later term.
+fn leads_all<D: Driven>(world: &D, server: ServerId) -> bool
+    requires { Known D.drive world.now (λ w. is_up_in w server ≡ true) }
+    ensures { MatchBool result
+        (Ever D.drive world.now (λ w. LeadsAll (D.drive.size world.now) server w))
+        (Ever D.drive world.now (λ w. LeadsAll (D.drive.size world.now) server w → ⊥)) }
+{
+    world.has_run();
+    if !leads(world, server) {
+        return false;
+    }
+    let ahead = highest(world, server);
+    !is_behind(world, server, ahead)
+}
+
+/// Whether a server that is up is preferred to the best so far: its log is newer, or as new, and it
+/// leads all.
+fn is_preferred<D: Driven>(world: &D, best: ServerId, next: ServerId) -> bool
+    requires best { best < D.drive.size world.now }
+    requires next { next < D.drive.size world.now }
+    requires up { Known D.drive world.now (λ w. is_up_in w next ≡ true) }
+    ensures { Ever D.drive world.now (λ w.
+        IsPreferred (D.drive.size world.now) best next result w) }
+{
+    if is_older(world, best, next) {
+        return true;
+    }
+    if is_older(world, next, best) {
+        return false;
+    }
+    leads_all(world, next)
+}
+
+/// The one of two servers that is up and preferred.
 fn better<D: Driven>(world: &D, best: Option<ServerId>, next: ServerId) -> Option<ServerId>
     requires best { IsServerOf (D.drive.size world.now) best }
     requires next { next < D.drive.size world.now }
     ensures server { IsServerOf (D.drive.size world.now) result }
-    ensures better { Ever D.drive world.now (λ w. IsBetter best next result w) }
+    ensures better { Ever D.drive world.now (λ w.
+        IsBetter (D.drive.size world.now) best next result w) }
 {
+    world.has_run();
     if !is_up(world, next) {
         return best;
     }
     match best {
         None => Some(next),
         Some(so_far) => {
-            let older = is_older(world, so_far, next);
-            Some(if older { next } else { so_far })
+            let preferred = is_preferred(world, so_far, next);
+            Some(if preferred { next } else { so_far })
         }
     }
 }
 
-/// A server that is up, whose log is no older than those of the others that are.
+/// A server that is up, whose log is no older than those of the others that are: of several the one
+/// that leads, if nobody who is up is in a later term, and else the first.
 pub(crate) fn best<D: Driven>(world: &D) -> ServerId
     requires { Known D.drive world.now (λ w. Quorum (D.drive.size world.now) (is_up_in w)) }
     ensures { Ever D.drive world.now (λ w. IsBest (D.drive.size world.now) result w) }

@@ -8,6 +8,7 @@ use Rattle.raft_model.specs.Quorums.{Quorum}
 use Rattle.raft_model.specs.Rafts.{Raft, is_up, is_leader}
 use Rattle.raft_model.specs.Worlds.{World}
 use Rattle.raft_progress.specs.Recovery.{HasRoom}
+use Rattle.raft_progress.specs.Calm.{HasBestLog, NobodyAhead}
 use Rattle.recovery.specs.declared.unsettled.Unsettled.{Unsettled}
 use Rattle.recovery.specs.declared.unsettled.Unsettled.TheVariants.{NoQuorum, Exhausted}
 use Rattle.recovery.specs.Runs.{is_up_in, Settles}
@@ -101,10 +102,28 @@ abbrev pub IsServerOf : ℕ → Option ℕ → Type 0
 IsServerOf n None = Unit {0}
 IsServerOf n (Some k) = k < n
 
--- Of the best so far, if there is one, and a next server, the one that is up and has the newer log.
-abbrev pub IsBetter : {C : Type 0} → Option ℕ → ℕ → Option ℕ → World C → Type 0
-IsBetter None next None w = is_up_in w next ≡ false
-IsBetter None next (Some k) w = (k ≡ next) × (is_up_in w next ≡ true)
-IsBetter (Some j) next None w = ⊥
-IsBetter (Some j) next (Some k) w = ((k ≡ j) × (is_up_in w next ≡ false))
-    ⊎ ((is_up_in w next ≡ true) × (older : Bool) × IsOlder j next older w × (k ≡ if older then next else j))
+-- server j leads, and none of n servers that is up is in a later term
+abbrev pub LeadsAll : {C : Type 0} → ℕ → ℕ → World C → Type 0
+LeadsAll n j w = (leads_in w j ≡ true) × NobodyAhead n (is_up_in w) j w
+
+-- A next server is preferred to server j, or not: it is if its log is newer, and if its log is as new
+-- and it leads all.
+abbrev pub IsPreferred : {C : Type 0} → ℕ → ℕ → ℕ → Bool → World C → Type 0
+IsPreferred n j next true w = IsOlder j next true w ⊎ (IsOlder next j false w × LeadsAll n next w)
+IsPreferred n j next false w = IsOlder j next false w × (IsOlder next j true w ⊎ (LeadsAll n next w → ⊥))
+
+-- of the best so far, if there is one, and a next server, the one that is up and preferred
+abbrev pub IsBetter : {C : Type 0} → ℕ → Option ℕ → ℕ → Option ℕ → World C → Type 0
+IsBetter n None next None w = is_up_in w next ≡ false
+IsBetter n None next (Some k) w = (k ≡ next) × (is_up_in w next ≡ true)
+IsBetter n (Some j) next None w = ⊥
+IsBetter n (Some j) next (Some k) w = ((k ≡ j) × (is_up_in w next ≡ false))
+    ⊎ ((is_up_in w next ≡ true) × (preferred : Bool) × IsPreferred n j next preferred w × (k ≡ if preferred then next else j))
+
+-- Server k is up, and its log is no older than those of the others that are. It leads all if another
+-- with such a log does.
+pub record IsBest {C : Type 0} (n k : ℕ) (w : World C) : Type 0 where
+  pub less : k < n
+  pub up : is_up_in w k ≡ true
+  pub best : HasBestLog n (is_up_in w) k w
+  pub leads : (j : ℕ) → j < n → is_up_in w j ≡ true → HasBestLog n (is_up_in w) j w → LeadsAll n j w → LeadsAll n k w

@@ -266,9 +266,3 @@ pub record CanObserveNewerTerm {C : Type 0} (n i k : ℕ) (w : World C) : Type 0
   pub chosen : Chosen n i w
   pub high : Highest n k w
   pub behind : IsBehind i k w
-
--- server k is up, and its log is no older than those of the others that are
-pub record IsBest {C : Type 0} (n k : ℕ) (w : World C) : Type 0 where
-  pub less : k < n
-  pub up : is_up_in w k ≡ true
-  pub best : HasBestLog n (is_up_in w) k w
