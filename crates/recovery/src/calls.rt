@@ -14,7 +14,8 @@ use world::{RaftWorld, World};
 /// where it does not lead, or is behind in term, and then it beats until each server that is up has
 /// applied its whole log. What it sends meanwhile is delivered, and what is answered; nothing that
 /// was sent before is. It takes at most two timeouts and `most_beats` of them. The server that is
-/// answered leads. (Raft, sections 5.2 to 5.4.)
+/// answered leads. Of several with such a log it is the one that leads already, where nobody who is
+/// up is in a later term, and else the first. (Raft, sections 5.2 to 5.4.)
 ///
 /// It is refused with `NoQuorum` where no quorum of the servers is up, and with `Exhausted` where
 /// one that is up has no room for two more terms or entries; nothing happened then. With

@@ -1,8 +1,8 @@
 //! Five servers with a tally, settled four times: before their first event; with forty entries that
 //! only the leader has, where another that stood thrice is ahead in term and one is down; after the
 //! leader has compacted its log and crashed; and with three down. And a group of three, settled
-//! three times: before its first event; with its leader down, to whom a worker's plan is under way;
-//! and with that server back.
+//! four times: before its first event; with its leader down, to whom a worker's plan is under way;
+//! with that server back; and once more.
 use crate::calls::{settle, settle_group};
 use crate::unsettled::Unsettled;
 use group_inputs::{Event, ServerInput};
@@ -166,6 +166,9 @@ fn a_whole_group_settles(rt: HostRuntime) {
     assert!(rt; settled_group(alloc, &mut world) == Some(2));
     // The restart; then a beat, with two deliveries for each of two servers: server 1 has all but
     // the last entry, and hears with that how much is committed.
+    assert!(rt; world.trace().len() == 32, "{} events", world.trace().len());
+    // Server 1 has as good a log now, but server 2 leads: nothing is left to do.
+    assert!(rt; settled_group(alloc, &mut world) == Some(2));
     assert!(rt; world.trace().len() == 32, "{} events", world.trace().len());
     // The plan is still under way.
     assert!(rt; world.step(Event::Deliver(under_way)).is_ok());

@@ -16,6 +16,10 @@
 //! - After event 60 server 3 leads term 2. Its no-op stands at 5, where server 1 has the entry of
 //!   term 1: the first round puts it there, and the second tells that it is committed. So it is 2
 //!   restarts, 2 beats and 16 deliveries.
+//! - After event 71 it knows that its no-op is committed, since servers 2 and 4 have it. Their logs
+//!   are as good, but it leads: one round tells all, and puts the no-op into the logs of servers 1
+//!   and 5. So it is 2 restarts, 1 beat and 8 deliveries.
+//! - After event 113 it leads, and all have applied its six entries: nothing is left to do.
 use group_inputs::{Event, ServerInput};
 use recovery::settle_all_of_group;
 use rows::ServerId;
