@@ -44,8 +44,9 @@ struct Taken<'s> {
 
 /// The steps that these take on a new group of these settings and nodes: each plain one as it
 /// stands, for a `settle` those that it takes there, up to 65 for each time that it does something,
-/// and for a `settle elect` up to 10,000 by which the group settles there. Fails with 12 where there is no such group, where a plain step is none, or where they
-/// come to more than 1,000,000; with 1 where there is no memory, for an actor of the group too.
+/// and for a `settle elect` up to 10,000 by which the group settles there. Fails with 12 where there
+/// is no such group, where a plain step is none, or where they come to more than 1,000,000; with 1
+/// where there is no memory, for an actor of the group too.
 pub fn expanded(
     alloc: Global,
     settings: Settings,

@@ -184,8 +184,8 @@ fn lines_behind(alloc: Global, world: &World, before: usize) -> Result<Vec<Strin
 /// What brings the group of a run back that stands so after these events: its servers that are down
 /// restart, and it settles, as `recovery::settle_all_of_group` says.
 ///
-/// It is refused with `Group` where there is no such group, with `NoRoom` where a server has no room
-/// for two more terms or entries then, and with `NoMemory`.
+/// It is refused with `Group` where there is no such group, with `NoRoom` where a server has no
+/// room for two more terms or entries then, and with `NoMemory`.
 pub fn recovery_of(
     alloc: Global,
     servers: usize,

@@ -135,12 +135,12 @@ fn farthest_in(rows: &[WayRow]) -> WayRow
     farthest_of(first, others)
 }
 
-/// What brings the group of a run back from each moment after a multiple of `every` events, and from
-/// the last. The run is played anew for each of them.
+/// What brings the group of a run back from each moment after a multiple of `every` events, and
+/// from the last. The run is played anew for each of them.
 ///
 /// It is refused with `TooMany` where there are more than 1,000 of them, then with `Group` where
-/// there is no such group, with `NoRoom` where a server has no room for two more terms or entries at
-/// one of them, and with `NoMemory`.
+/// there is no such group, with `NoRoom` where a server has no room for two more terms or entries
+/// at one of them, and with `NoMemory`.
 pub fn table_of(
     alloc: Global,
     servers: usize,

@@ -7,10 +7,10 @@
 //! - After event 53 server 1, which led term 1, has crashed. It alone has entry 5, so it restarts
 //!   and stands again: a timeout, and eight deliveries for its votes. Behind its no-op, entry 6,
 //!   nobody takes what it sends first, since all lack entry 5. The second round brings both, and
-//!   the third tells that they are committed. So it is 1 restart, 1 timeout, 3 beats and 8 + 3 * 8 =
-//!   32 deliveries. Its log had 5 entries: the bound is 1 + 5 * (5 + 0 + 3) = 41 beats.
-//! - After event 56 server 5 is down too, and server 3 stands in term 2. Server 1 still has the best
-//!   log, but is behind in term: by a first timeout it comes to term 2 itself, where there is
+//!   the third tells that they are committed. So it is 1 restart, 1 timeout, 3 beats and 8 + 3 * 8
+//!   = 32 deliveries. Its log had 5 entries: the bound is 1 + 5 * (5 + 0 + 3) = 41 beats.
+//! - After event 56 server 5 is down too, and server 3 stands in term 2. Server 1 still has the
+//!   best log, but is behind in term: by a first timeout it comes to term 2 itself, where there is
 //!   nothing to hear, and by a second it stands in term 3. The rest is as before: 2 restarts, 2
 //!   timeouts, 3 beats and 32 deliveries.
 //! - After event 60 server 3 leads term 2. Its no-op stands at 5, where server 1 has the entry of
