@@ -128,7 +128,7 @@ module _ {V S C : Type 0} (m : MachineSpec S C) (d : Drive V S C) (view : V) whe
   -- a next server whose log is as new is preferred if it leads all
   pub preferred_level : (j next : ℕ) (b : Bool) → Ever d view (λ w. IsOlder j next false w) → Ever d view (λ w. IsOlder next j false w) →
       MatchBool b (Ever d view (λ w. LeadsAll (d.size view) next w)) (Ever d view (λ w. LeadsAll (d.size view) next w → ⊥)) → Ever d view (λ w. IsPreferred (d.size view) j next b w)
-  preferred_level j next true a c led past w r = inr (a past w r, led past w r)
+  preferred_level j next true a c led past w r = inr (c past w r, led past w r)
   preferred_level j next false a c not_led past w r = (a past w r, inr (not_led past w r))
 
 module _ {V S C : Type 0} (m : MachineSpec S C) (d : Drive V S C) (dl : LawfulDrive m d) (view : V) where
@@ -168,15 +168,18 @@ module _ {V S C : Type 0} (m : MachineSpec S C) (d : Drive V S C) (dl : LawfulDr
 
   -- ---- a leader of all
 
+  pub leads_not : (j : ℕ) → Ever d view (λ w. false ≡ leads_in w j) → Ever d view (λ w. LeadsAll (d.size view) j w → ⊥)
+  leads_not j not_led past w r all = true≢false (sym all.0 ∙ sym (not_led past w r))
+
   module _ (j k : ℕ) (high : Ever d view (λ w. Highest (d.size view) k w)) where
     pub leads_all_told : (b : Bool) → Ever d view (λ w. true ≡ leads_in w j) → Known d view (λ w. is_up_in w j ≡ true) → MatchBool b (Ever d view (λ w. IsBehind j k w)) (Ever d view (λ w. IsBehind j k w → ⊥)) →
         MatchBool (not b) (Ever d view (λ w. LeadsAll (d.size view) j w)) (Ever d view (λ w. LeadsAll (d.size view) j w → ⊥))
-    leads_all_told true leads up behind past w r all =
+    leads_all_told true leads up behind = λ past w r all.
         let h = high past w r in
         let z = there m d dl view k h.less past w r in
         let s = there m d dl view j (up_within m d dl view j past w r (up.ever past w r)) past w r in
         omega (arith, all.1 k z.0 s.0 h.less h.up z.1 s.1, behind past w r s.0 z.0 s.1 z.1)
-    leads_all_told false leads up level past w r = (
+    leads_all_told false leads up level = λ past w r. (
       sym (leads past w r),
       λ i s me less upi at here. elim (leb_tells s.term me.term) [
         | inl e ↦ e.1
@@ -185,9 +188,6 @@ module _ {V S C : Type 0} (m : MachineSpec S C) (d : Drive V S C) (dl : LawfulDr
             omega (arith, e.1, h.top i s z less upi at hz, ap (λ (q : Raft C). q.term) (same_Some a me (sym ha ∙ here)))))
       ],
     )
-
-    pub leads_not : Ever d view (λ w. false ≡ leads_in w j) → Ever d view (λ w. LeadsAll (d.size view) j w → ⊥)
-    leads_not not_led past w r all = true≢false (sym all.0 ∙ sym (not_led past w r))
 
   -- ---- the best log
 
