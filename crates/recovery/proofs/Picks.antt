@@ -256,10 +256,13 @@ module _ {V S C : Type 0} (m : MachineSpec S C) (d : Drive V S C) (dl : LawfulDr
         by true (inl older) = next_best h.0 (λ j s z lo up at after. newer j s z lo up at after (older_true (mine.0).log z.log (sym (older mine.0 z mine.1 after))))
             (λ j s z lo up at after level. absurd (older_not (mine.0).log z.log (sym (older mine.0 z mine.1 after)) (older_trans z.log s.log (mine.0).log level (old.below j s mine.0 lo up at mine.1))))
         by true (inr l) = next_best h.0 (λ j s z lo up at after. newer j s z lo up at after (older_false z.log (mine.0).log (sym (l.0 z mine.0 after mine.1)))) (λ j s z lo up at after level. l.1)
-        by false l = old_best b old (λ up s z at after. (older_false z.log s.log (sym (l.0 z s after at)), λ level all. elim l.1 [
-          | inl older ↦ older_not s.log z.log (sym (older s z at after)) level
-          | inr not_led ↦ not_led all
-        ]))
+        by false l = old_best b old (λ up s z at after. (
+          older_false z.log s.log (sym (l.0 z s after at)),
+          λ level all. elim l.1 [
+            | inl older ↦ older_not s.log z.log (sym (older s z at after)) level
+            | inr not_led ↦ not_led all
+          ],
+        ))
 
   pub best_more : (k next : ℕ) → next ≡ k → next < d.size view → (b after : Option ℕ) → Ever d view (λ w. BestBelow (d.size view) b k w) → Ever d view (λ w. IsBetter (d.size view) b next after w) → Ever d view (λ w. BestBelow (d.size view) after (k + 1) w)
   best_more k next same less b after old one past w r = best_next k next same less past w r b after (old past w r) (one past w r)
