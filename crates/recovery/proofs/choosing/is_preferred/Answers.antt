@@ -1,4 +1,4 @@
-use Rattle.std.proofs.Common.{inl, inr}
+use Rattle.std.proofs.Common.{inl}
 use Rattle.recovery.proofs.Picks.{preferred_level}
 use Rattle.recovery.proofs.choosing.is_preferred.Goals as goal
 
