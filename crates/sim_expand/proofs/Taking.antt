@@ -32,8 +32,11 @@ one_more_taken settings nodes lines mid line own new are is found = record {
 
 -- ---- what is taken behind what was
 
+pub no_line_more : (t : Taken) → StandsAsTaken t → TakesMore t [] t
+no_line_more t stands = record { settings = refl; nodes = refl; lines = sym (append-nil (map string_bytes t.lines.items)); stands = stands }
+
 pub none_more : (t : Taken) → StandsAsTaken t → TakesUpTo 0 t t
-none_more t stands = ([], omega arith, record { settings = refl; nodes = refl; lines = sym (append-nil (map string_bytes t.lines.items)); stands = stands })
+none_more t stands = ([], omega arith, no_line_more t stands)
 
 pub more_and_more : (a b c : Taken) (own others : List (List ℕ)) → TakesMore a own b → TakesMore b others c → TakesMore a (own ++ others) c
 more_and_more a b c own others first next = record {

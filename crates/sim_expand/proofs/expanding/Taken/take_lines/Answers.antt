@@ -3,11 +3,11 @@ use Rattle.std.proofs.lemmas.List.{length-map, length-take-le, map-append, take_
 use Rattle.sim_scenario.specs.Complaints.{IsStepLine}
 use Rattle.sim_play.proofs.GoodSteps.{good_at}
 use Rattle.sim_expand.specs.Inner.Taking.{TakesMore, TakesUpTo}
-use Rattle.sim_expand.proofs.Taking.{more_and_more, none_more, some_lines, step_stops, stops_behind, stops_with_more}
+use Rattle.sim_expand.proofs.Taking.{more_and_more, no_line_more, some_lines, step_stops, stops_behind, stops_with_more}
 use Rattle.sim_expand.proofs.expanding.Taken.take_lines.Goals as goal
 
 pub loop-line-init : goal.loop-line-init
-loop-line-init c = (none_more c.args.self.now c.requires.stands).2
+loop-line-init c = no_line_more c.args.self.now c.requires.stands
 
 pub line-requires : goal.line-requires
 line-requires c = c.loop-line.invariant.stands
