@@ -21,7 +21,7 @@ pub fn read_items<F: Field>(
 ) -> Result<(Sequence<F>, usize), Refusal>
     ensures { Gives result (items_at (F.format version) count bytes.now at) }
 {
-    let mut items = Vec::new(alloc);
+    let mut items = Vec::with_capacity(alloc, count.min(32))?;
     let mut at = at;
     for _ in 0..count {
         let (item, next) = F::read_at(version, alloc, bytes, at)?;

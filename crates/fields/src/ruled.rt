@@ -42,7 +42,7 @@ fn read_ruled_items<F: RuledField>(
 ) -> Result<(Sequence<F>, usize), Refusal>
     ensures { Gives result (ruled_at (F.behind version) [] count bytes.now at) }
 {
-    let mut items = Vec::new(alloc);
+    let mut items = Vec::with_capacity(alloc, count.min(8))?;
     let mut at = at;
     for _ in 0..count {
         let (item, next) = F::read_behind(version, alloc, bytes, at, &items)?;

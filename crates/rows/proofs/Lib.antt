@@ -1,4 +1,5 @@
 mod Names
+mod NameWords
 mod Ascii
 pub mod KeyLaws
 pub mod RisingLaws

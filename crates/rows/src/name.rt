@@ -1,5 +1,8 @@
-ghost use Rattle.std.specs.Prelude.{◌≡◌, IfOk, IfErr, IfSome, IfNone, false};
+ghost use Rattle.std.specs.Cmp.Lexicographic.{slice_cmp};
+ghost use Rattle.std.specs.Int.{w64, from_be_bytes};
 ghost use Rattle.std.specs.List.{list_all};
+ghost use Rattle.std.specs.Ordering.{nat_cmp};
+ghost use Rattle.std.specs.Prelude.{◌≡◌, ◌≤◌, length, IfOk, IfErr, IfSome, IfNone, false};
 ghost use Rattle.rows.specs.Names.{is_name, is_name_byte, NameFits};
 ghost use Rattle.rows.specs.declared.refusal.Refusal.TheVariants as refusals;
 
@@ -131,7 +134,7 @@ impl PartialEq for Name {
     ghost laws = { partial_equiv_from_equiv nat_list_eq_equiv };
 
     fn eq(&self, other: &Name) -> bool {
-        self.as_bytes() == other.as_bytes()
+        self.cmp(other).is_eq()
     }
 }
 
@@ -170,6 +173,30 @@ impl Ord for Name {
     ghost matches_eq = { λ a b. texts_ties a b };
 
     fn cmp(&self, other: &Name) -> Ordering {
-        self.as_bytes().cmp(other.as_bytes())
+        cmp_by_words(&self.bytes, &other.bytes)
     }
+}
+
+/// How the bytes compare: the first that differ decide. Eight at a time, as numbers, since what a
+/// server does for a job is mostly to look for names.
+fn cmp_by_words(left: &[u8; 32], right: &[u8; 32]) -> Ordering
+    ensures { result ≡ slice_cmp nat_cmp left.now right.now }
+{
+    for k in 0..4 {
+        let (word, other) = (first_word(&left[8 * k..]), first_word(&right[8 * k..]));
+        if word != other {
+            return word.cmp(&other);
+        }
+    }
+    Ordering::Equal
+}
+
+/// The first eight bytes as a number, the first of them the highest.
+fn first_word(bytes: &[u8]) -> u64
+    requires { 8 ≤ length bytes.now }
+    ensures { result ≡ from_be_bytes w64 bytes.now }
+{
+    u64::from_be_bytes([
+        bytes[0], bytes[1], bytes[2], bytes[3], bytes[4], bytes[5], bytes[6], bytes[7],
+    ])
 }
