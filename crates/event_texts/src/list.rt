@@ -22,6 +22,7 @@ pub(crate) fn read_items<T: Spelled>(
         → text.now ≡ join_with_byte 44 (map T.spelling items)
         → IfOk result (λ read. read ≡ Some items) }
 {
+    // Mostly there is one.
     let mut items = Sequence::from_vec(Vec::with_capacity(alloc, 1)?);
     for part in text.split(',') {
         let Some(item) = T::read_text(part) else {

@@ -21,6 +21,7 @@ pub fn read_items<F: Field>(
 ) -> Result<(Sequence<F>, usize), Refusal>
     ensures { Gives result (items_at (F.format version) count bytes.now at) }
 {
+    // A count may promise more items than the text has: no room for all of them ahead.
     let mut items = Vec::with_capacity(alloc, count.min(32))?;
     let mut at = at;
     for _ in 0..count {

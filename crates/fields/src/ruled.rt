@@ -42,6 +42,7 @@ fn read_ruled_items<F: RuledField>(
 ) -> Result<(Sequence<F>, usize), Refusal>
     ensures { Gives result (ruled_at (F.behind version) [] count bytes.now at) }
 {
+    // A count may promise more items than the text has: no room for all of them ahead.
     let mut items = Vec::with_capacity(alloc, count.min(8))?;
     let mut at = at;
     for _ in 0..count {
