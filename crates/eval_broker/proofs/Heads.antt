@@ -1,15 +1,16 @@
 -- The heads of jobs: how they change where ranks of one job do, and of which tasks they are.
-use Rattle.std.proofs.Common.{◌≡◌, ℕ, ◌≤◌, Bool, true, false, cond, not, ◌&&◌, T, List, [], ◌∷◌, length, Option, Some, None, is_some, refl, sym, ap, ◌∙◌, arith}
-use Rattle.std.specs.Prelude.{◌||◌, nat_lt, IfSome}
+use Rattle.std.proofs.Common.{◌≡◌, ℕ, ◌≤◌, Bool, true, false, cond, not, ◌&&◌, T, List, [], ◌∷◌, length, Option, Some, None, is_some, refl, sym, ap, subst, ◌∙◌, arith}
+use Rattle.std.specs.Prelude.{◌||◌, nat_lt}
 use Rattle.std.specs.declared.cmp.Ordering.{Ordering}
 use Rattle.std.specs.declared.cmp.Ordering.TheVariants.{Less, Equal, Greater}
-use Rattle.std.specs.Ordering.{bool_cmp, is_eq, ordering_then}
+use Rattle.std.specs.Ordering.{bool_cmp, is_eq, is_gt, ordering_then, ordering_reverse}
 use Rattle.std.specs.Cmp.{tied_itself}
 use Rattle.std.specs.Cmp.Lexicographic.{nat_list_cmp_total}
 use Rattle.std.proofs.lemmas.Map.Lookups.{exact_bytes}
 use Rattle.rows.specs.Keys.{name_cmp}
+use Rattle.rows.specs.Rising.{is_rising}
 use Rattle.fsm_tables.specs.Rows.{by_order, row_of, has_row, put}
-use Rattle.fsm_tables.proofs.RowLaws.{rising_put}
+use Rattle.fsm_tables.proofs.RowLaws.{second, less, rising_put}
 use Rattle.fsm_tables.specs.ReservedTables.{without}
 use Rattle.fsm_tables.specs.declared.urgency.Urgency.{Urgency}
 use Rattle.fsm_tables.specs.Urgencies.{urgency_cmp}
@@ -17,8 +18,8 @@ use Rattle.fsm_tables.proofs.ReservedTables.{rising_without, found_tied, room_le
 use Rattle.group_model.specs.Brokers.{Task, task_of}
 use Rattle.eval_broker.specs.declared.ranks.Rank.{Rank}
 use Rattle.eval_broker.specs.declared.ranks.Head.{Head}
-use Rattle.eval_broker.specs.Inner.Lists.{rank_cmp, head_cmp, rank_job, rank_id, head_id, rank_of, head_for, is_any, holds_key, is_listed, IsListing, head_at, first_head, head_of, is_head, AreHeads, AreHeadsBut}
-use Rattle.eval_broker.proofs.Orders.{rank_total, head_total, then_first, then_second, same_urgency, is_equal, no, true_false, has_put, has_without, has_later}
+use Rattle.eval_broker.specs.Inner.Lists.{rank_cmp, head_cmp, rank_job, rank_id, head_id, rank_of, head_for, is_any, holds_key, is_listed, IsListing, head_at, first_head, head_of, is_head, is_behind, AreHeads, AreHeadsBut, HasHeadsUpTo}
+use Rattle.eval_broker.proofs.Orders.{rank_total, head_total, then_first, then_second, same_urgency, is_equal, no, true_false, has_put, has_without, has_later, first_least}
 use Rattle.eval_broker.proofs.Listings.{no_longer}
 
 abbrev same_job : List ℕ → List ℕ → Bool
@@ -185,13 +186,48 @@ head_listed ts ps l q h = first (row_of name_cmp rank_job q.job ps) refl h where
   first None is e = absurd (cc)
   first (Some p) is e = at p (p.is_free && not p.is_spent) is e
 
--- so there is room for the head that comes
-pub head_capacity : (job : List ℕ) (ts : List Task) (ps : List Rank) (hs : List Head) (capacity : ℕ) → length ts ≤ capacity → IsListing rank_cmp rank_id rank_of is_any ts ps → AreHeadsBut job ps hs
-    → IfSome (head_of job ps) (λ h. T (has_row head_cmp (λ t. t) h hs || nat_lt (length hs) capacity))
-head_capacity job ts ps hs capacity le l but = by (head_of job ps) refl where
-  by : (m : Option Head) → head_of job ps ≡ m → IfSome m (λ h. T (has_row head_cmp (λ t. t) h hs || nat_lt (length hs) capacity))
-  by None e = tt
-  by (Some h) e =
-      let heads = head_added job ps hs (Some h) e but in
-      let few : length (put head_cmp (λ t. t) h hs) ≤ length ts = no_longer head_cmp head_total head_id head_for is_any (put head_cmp (λ t. t) h hs) ts heads.rising (λ q there. head_listed ts ps l q (sym (heads.exact q) ∙ there)) in
-      room_left head_cmp (λ t. t) head_total h hs capacity but.rising (omega (arith, le, few))
+-- so they are no more than the tasks
+pub few_heads : (ts : List Task) (ps : List Rank) (most : ℕ) → length ts ≤ most → IsListing rank_cmp rank_id rank_of is_any ts ps → HasHeadsUpTo most ps
+few_heads ts ps most le l hs heads =
+    let few : length hs ≤ length ts = no_longer head_cmp head_total head_id head_for is_any hs ts heads.rising (λ q there. head_listed ts ps l q (sym (heads.exact q) ∙ there)) in
+    omega (arith, le, few)
+
+-- and there is room for the head that comes
+pub head_space : (job : List ℕ) (ps : List Rank) (hs : List Head) (capacity : ℕ) → HasHeadsUpTo capacity ps → (h : Head) → head_of job ps ≡ Some h → AreHeadsBut job ps hs → T (has_row head_cmp (λ t. t) h hs || nat_lt (length hs) capacity)
+head_space job ps hs capacity few h e but = room_left head_cmp (λ t. t) head_total h hs capacity but.rising (few (put head_cmp (λ t. t) h hs) (head_added job ps hs (Some h) e but))
+
+-- ---- a rank behind the first of its job
+
+module _ (p : Rank) where
+  -- what is no later than the first comes before it too
+  later : (y first : Rank) (r : Ordering) → rank_cmp y first ≡ r → is_gt r ≡ false → rank_cmp first p ≡ Less → rank_cmp p y ≡ Greater
+  later y first Less e g under = rank_total.antisymm p y ∙ ap ordering_reverse (rank_total.trans y first p e under)
+  later y first Equal e g under = rank_total.antisymm p y ∙ ap ordering_reverse (rank_total.congr y first p e ∙ under)
+  later y first Greater e g under = absurd (cc)
+
+  first_stays : (first : Rank) (ps : List Rank) → T (is_rising rank_cmp (λ x. x) ps) → row_of name_cmp rank_job p.job ps ≡ Some first → rank_cmp first p ≡ Less
+      → row_of name_cmp rank_job p.job (put rank_cmp (λ x. x) p ps) ≡ Some first
+  first_stays first [] rising found under = absurd (cc)
+  first_stays first (y ∷ ys) rising found under =
+      let least = first_least rank_cmp rank_total y first ys rising (found_there p.job (y ∷ ys) first found) in
+      ap (λ r. row_of name_cmp rank_job p.job (by_order r (p ∷ y ∷ ys) (p ∷ ys) (y ∷ put rank_cmp (λ x. x) p ys))) (later y first (rank_cmp y first) refl least under)
+      ∙ by (same_job p.job y.job) found (λ rest. first_stays first ys (second _ _ rising) rest under)
+    where
+      by : (b : Bool) → cond b (Some y) (row_of name_cmp rank_job p.job ys) ≡ Some first → (row_of name_cmp rank_job p.job ys ≡ Some first → row_of name_cmp rank_job p.job (put rank_cmp (λ x. x) p ys) ≡ Some first)
+          → cond b (Some y) (row_of name_cmp rank_job p.job (put rank_cmp (λ x. x) p ys)) ≡ Some first
+      by true e rest = e
+      by false e rest = rest e
+
+  -- so all heads stay
+  pub heads_stay : (ps : List Rank) (hs : List Head) → T (is_rising rank_cmp (λ x. x) ps) → is_behind p (row_of name_cmp rank_job p.job ps) ≡ true → AreHeads ps hs → AreHeads (put rank_cmp (λ x. x) p ps) hs
+  heads_stay ps hs rising behind l = record {
+    rising = l.rising;
+    exact = λ t. l.exact t ∙ ap (λ m. is_head t (first_head m)) (sym (by t.job (same_job t.job p.job) refl));
+  } where
+    here : (m : Option Rank) → row_of name_cmp rank_job p.job ps ≡ m → is_behind p m ≡ true → row_of name_cmp rank_job p.job (put rank_cmp (λ x. x) p ps) ≡ m
+    here None e h = absurd (cc)
+    here (Some first) e h = first_stays first ps rising e (less _ (subst T (sym h) tt))
+
+    by : (job : List ℕ) (b : Bool) → same_job job p.job ≡ b → row_of name_cmp rank_job job (put rank_cmp (λ x. x) p ps) ≡ row_of name_cmp rank_job job ps
+    by job true s = subst (λ k. row_of name_cmp rank_job k (put rank_cmp (λ x. x) p ps) ≡ row_of name_cmp rank_job k ps) (sym (one_job job p.job s)) (here (row_of name_cmp rank_job p.job ps) refl behind)
+    by job false s = row_past_put job p s ps

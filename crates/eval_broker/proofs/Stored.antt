@@ -9,30 +9,14 @@ use Rattle.rows.specs.Keys.{eval_cmp}
 use Rattle.rows.proofs.KeyLaws.{eval_cmp_total}
 use Rattle.rows.specs.Rising.{is_rising}
 use Rattle.fsm_tables.specs.Rows.{by_order, has_row, put}
-use Rattle.fsm_tables.proofs.RowLaws.{first, second, none_below, below_less, below_tied, rising_put, row_of-put, length-put, some_same}
-use Rattle.fsm_tables.proofs.SetLaws.{same_rows}
-use Rattle.fsm_tables.specs.ReservedTables.{without}
-use Rattle.fsm_tables.proofs.ReservedTables.{rising_without, row_of-without, found_tied}
+use Rattle.fsm_tables.proofs.RowLaws.{first, second, none_below, below_less, below_tied, length-put, some_same}
+use Rattle.fsm_tables.proofs.ReservedTables.{found_tied}
 use Rattle.fsm_model.specs.Words.{same_eval}
 use Rattle.raft_model.specs.Logs.{MAX}
 use Rattle.group_model.specs.Brokers.{Broker, Task, Gives, UsedUp, task_id, task_of, with_task, goes_out, next_token, next, delivery_of, given, gives, deliver}
 use Rattle.eval_broker.specs.declared.lists.Lists.{Lists}
 use Rattle.eval_broker.specs.Inner.Lists.{HaveCapacity, KeepCapacity}
 use Rattle.eval_broker.proofs.Orders.{none_some}
-
--- what is put goes with its id
-pub put_without : (t : Task) (ts : List Task) → T (is_rising eval_cmp task_id ts) → without eval_cmp task_id t.id (put eval_cmp task_id t ts) ≡ without eval_cmp task_id t.id ts
-put_without t ts rising =
-    same_rows eval_cmp task_id eval_cmp_total _ _
-    (rising_without eval_cmp task_id eval_cmp_total t.id (put eval_cmp task_id t ts) (rising_put eval_cmp task_id eval_cmp_total t ts rising)) (rising_without eval_cmp task_id eval_cmp_total t.id ts rising)
-    (λ q. row_of-without eval_cmp task_id eval_cmp_total q t.id (put eval_cmp task_id t ts)
-    ∙ ap (cond (is_eq (eval_cmp q t.id)) None) (row_of-put eval_cmp task_id eval_cmp_total q t ts)
-    ∙ by (is_eq (eval_cmp q t.id)) (Some t) (task_of q ts)
-    ∙ sym (row_of-without eval_cmp task_id eval_cmp_total q t.id ts))
-  where
-    by : (b : Bool) (x y : Option Task) → cond b None (cond b x y) ≡ cond b None y
-    by true x y = refl
-    by false x y = refl
 
 -- ---- room
 

@@ -79,7 +79,7 @@ impl Broker {
             None => {
                 let task = Task::of(row);
                 self.tasks.reserve_rows(&task)?;
-                self.tasks.put(task);
+                self.tasks.bring_in(task);
             }
         }
         Ok(())

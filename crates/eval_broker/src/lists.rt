@@ -1,5 +1,5 @@
 //! The lists beside the tasks.
-ghost use Rattle.std.specs.Prelude.{◌≡◌, ◌≤◌, IfSome, OnOk, length, T as Holds, if◌then◌else◌};
+ghost use Rattle.std.specs.Prelude.{◌≡◌, ◌≤◌, OnOk, length, T as Holds, if◌then◌else◌};
 ghost use Rattle.rows.specs.Keys.{eval_cmp};
 ghost use Rattle.rows.specs.Rising.{is_rising};
 ghost use Rattle.fsm_tables.specs.Rows.{put};
@@ -7,9 +7,9 @@ ghost use Rattle.fsm_tables.specs.ReservedTables.{without, has_space};
 ghost use Rattle.fsm_tables.specs.Urgencies.{urgency_cmp};
 ghost use Rattle.group_model.specs.Brokers.{task_id};
 ghost use Rattle.eval_broker.specs.Answers.{urgency_of};
-ghost use Rattle.eval_broker.specs.Inner.Lists.{head_cmp, is_failed, head_of, AreHeads, AreHeadsBut, AreTaskLists, HaveCapacity, KeepCapacity};
+ghost use Rattle.eval_broker.specs.Inner.Lists.{rank_cmp, is_failed, head_of, AreHeads, AreHeadsBut, HasHeadsUpTo, AreTaskLists, HaveCapacity, KeepCapacity};
 
-use crate::ranks::{Head, Rank, head_of};
+use crate::ranks::{Head, Rank, head_of, is_behind};
 use crate::reserved_tree::ReservedTree;
 use crate::task::Task;
 use fsm_tables::{ReservedTable, Urgency};
@@ -64,8 +64,7 @@ impl Lists {
     /// Brings in the head of a job.
     fn add_head(&mut self, job: &JobName)
         requires heads { AreHeadsBut job.now self.old.ranks.rows self.old.heads.rows }
-        requires capacity { IfSome (head_of job.now self.old.ranks.rows) (λ h.
-            Holds (has_space head_cmp (λ x. x) h self.old.heads)) }
+        requires capacity { HasHeadsUpTo self.old.heads.capacity self.old.ranks.rows }
         ensures heads { AreHeads self.old.ranks.rows self.new.heads.rows }
         ensures ranks { self.new.ranks ≡ self.old.ranks }
         ensures failed { self.new.failed ≡ self.old.failed }
@@ -76,15 +75,36 @@ impl Lists {
         }
     }
 
+    /// Brings in a rank, and the head of its job where that is another now: where the first of the
+    /// job comes before the rank, the heads stay as they are.
+    pub fn add_rank(&mut self, rank: Rank)
+        requires heads { AreHeads self.old.ranks.rows self.old.heads.rows }
+        requires space { Holds (has_space rank_cmp (λ p. p) rank self.old.ranks) }
+        requires capacity { let new = put rank_cmp (λ p. p) rank self.old.ranks.rows in
+            HasHeadsUpTo self.old.heads.capacity new }
+        ensures ranks { self.new.ranks.rows ≡ put rank_cmp (λ p. p) rank self.old.ranks.rows }
+        ensures heads { AreHeads self.new.ranks.rows self.new.heads.rows }
+        ensures failed { self.new.failed ≡ self.old.failed }
+        ensures kept { KeepCapacity self.old self.new }
+    {
+        if is_behind(self.ranks.tree(), &rank) {
+            self.ranks.put(rank);
+            return;
+        }
+        self.drop_head(&rank.job);
+        self.ranks.put(rank);
+        self.add_head(&rank.job);
+    }
+
     /// Brings in a task that was given out as often as may be, if this is one.
-    fn add_failed(&mut self, task: &Task)
+    pub fn add_failed(&mut self, task: &Task)
         requires { Holds (has_space urgency_cmp (λ u. u) (urgency_of task.now) self.old.failed) }
         ensures failed { let old = self.old.failed.rows in
             let one = put urgency_cmp (λ u. u) (urgency_of task.now) old in
             self.new.failed.rows ≡ (if is_failed task.now then one else old) }
         ensures ranks { self.new.ranks ≡ self.old.ranks }
         ensures heads { self.new.heads ≡ self.old.heads }
-        ensures capacity { self.old.failed.capacity ≤ self.new.failed.capacity }
+        ensures kept { KeepCapacity self.old self.new }
     {
         if task.is_failed() {
             self.failed.put(task.urgency());
@@ -104,23 +124,6 @@ impl Lists {
             self.drop_head(&job);
             self.ranks.cut(&task.rank());
             self.failed.cut(&task.urgency());
-            self.add_head(&job);
-        }
-    }
-
-    /// Brings in what the lists have of a task, if it is there.
-    pub fn bring_in(&mut self, tasks: &ReservedTree<Task>, id: &EvalId)
-        requires rising { Holds (is_rising eval_cmp task_id tasks.now.rows) }
-        requires listed { AreTaskLists (without eval_cmp task_id id.now tasks.now.rows) self.old }
-        requires capacity { HaveCapacity (length tasks.now.rows) self.old }
-        ensures listed { AreTaskLists tasks.now.rows self.new }
-        ensures kept { KeepCapacity self.old self.new }
-    {
-        if let Some(task) = tasks.get(id) {
-            let job = task.job();
-            self.drop_head(&job);
-            self.ranks.put(task.rank());
-            self.add_failed(task);
             self.add_head(&job);
         }
     }

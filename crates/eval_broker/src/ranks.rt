@@ -4,7 +4,7 @@ ghost use Rattle.rows.specs.Keys.{name_cmp};
 ghost use Rattle.rows.specs.Rising.{is_rising};
 ghost use Rattle.fsm_tables.specs.Rows.{row_of};
 ghost use Rattle.eval_broker.specs.Inner.Trees.{tree_rows};
-ghost use Rattle.eval_broker.specs.Inner.Lists.{rank_cmp, rank_job, head_at, head_of};
+ghost use Rattle.eval_broker.specs.Inner.Lists.{rank_cmp, rank_job, head_at, head_of, is_behind};
 
 use crate::tree::Tree;
 use fsm_tables::{Row, Urgency};
@@ -84,6 +84,18 @@ pub(crate) fn head_of(ranks: &Tree<Rank>, job: &JobName) -> Option<Head>
     ensures { result ≡ head_of job.now (tree_rows ranks.now) }
 {
     first_of(ranks, job)?.head()
+}
+
+/// Whether the first of its job comes before it.
+pub(crate) fn is_behind(ranks: &Tree<Rank>, rank: &Rank) -> bool
+    requires { Holds (is_rising rank_cmp (λ p. p) (tree_rows ranks.now)) }
+    ensures { let first = row_of name_cmp rank_job rank.now.job (tree_rows ranks.now) in
+        result ≡ is_behind rank.now first }
+{
+    match first_of(ranks, &rank.job) {
+        Some(first) => *first < *rank,
+        None => false,
+    }
 }
 
 impl Ranged for Rank {

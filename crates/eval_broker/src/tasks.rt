@@ -1,10 +1,11 @@
 //! The tasks, with the lists beside them.
 ghost use Rattle.std.specs.Prelude.{◌≡◌, ◌≤◌, ◌+◌, OnOk, option_map, length, map, filter, T as Holds};
 ghost use Rattle.rows.specs.Keys.{eval_cmp};
+ghost use Rattle.rows.specs.Rising.{is_rising};
 ghost use Rattle.fsm_tables.specs.Rows.{put};
 ghost use Rattle.fsm_tables.specs.ReservedTables.{without, has_space};
 ghost use Rattle.group_model.specs.Brokers.{task_id, task_of, next};
-ghost use Rattle.eval_broker.specs.Inner.Lists.{AreKept, HaveCapacity, is_failed};
+ghost use Rattle.eval_broker.specs.Inner.Lists.{AreKept, AreTaskLists, HaveCapacity, is_failed};
 ghost use Rattle.eval_broker.specs.Answers.{urgency_of};
 ghost use Rattle.group_model.specs.Order.{in_order};
 
@@ -50,10 +51,25 @@ impl Tasks {
         ensures kept { AreKept self.new }
         ensures rows { self.new.tasks.rows ≡ put eval_cmp task_id task self.old.tasks.rows }
     {
-        let id = task.id();
-        self.lists.take_out(&self.tasks, &id);
+        self.lists.take_out(&self.tasks, &task.id());
+        self.bring_in(task);
+    }
+
+    /// Makes or replaces a task of which the lists have nothing. There is room for it, so it takes
+    /// no memory.
+    pub fn bring_in(&mut self, task: Task)
+        requires rising { Holds (is_rising eval_cmp task_id self.old.tasks.rows) }
+        requires listed { let others = without eval_cmp task_id task.id self.old.tasks.rows in
+            AreTaskLists others self.old.lists }
+        requires space { Holds (has_space eval_cmp task_id task self.old.tasks) }
+        requires capacity { let new = put eval_cmp task_id task self.old.tasks.rows in
+            HaveCapacity (length new) self.old.lists }
+        ensures kept { AreKept self.new }
+        ensures rows { self.new.tasks.rows ≡ put eval_cmp task_id task self.old.tasks.rows }
+    {
+        self.lists.add_rank(task.rank());
+        self.lists.add_failed(&task);
         self.tasks.put(task);
-        self.lists.bring_in(&self.tasks, &id);
     }
 
     /// Takes out the task of an id, if there is one. It takes no memory.

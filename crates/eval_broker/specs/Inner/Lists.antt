@@ -2,7 +2,7 @@
 -- job of which none is out or acked, and those given out too often.
 use Rattle.std.specs.Prelude.{ℕ, ◌≡◌, ◌≤◌, Bool, true, false, not, ◌&&◌, if◌then◌else◌, nat_lt, List, length, T, Option, Some, None}
 use Rattle.std.specs.declared.cmp.Ordering.{Ordering}
-use Rattle.std.specs.Ordering.{bool_cmp, ordering_then, is_eq}
+use Rattle.std.specs.Ordering.{bool_cmp, ordering_then, is_eq, is_lt}
 use Rattle.rows.specs.declared.evaluation.EvalId.{EvalId}
 use Rattle.rows.specs.Keys.{name_cmp, eval_cmp}
 use Rattle.rows.specs.Rising.{is_rising}
@@ -81,6 +81,11 @@ first_head (Some p) = head_at p
 abbrev pub head_of : List ℕ → List Rank → Option Head
 head_of job ranks = first_head (row_of name_cmp rank_job job ranks)
 
+-- whether the first of its job comes before it
+abbrev pub is_behind : Rank → Option Rank → Bool
+is_behind p None = false
+is_behind p (Some first) = is_lt (rank_cmp first p)
+
 abbrev pub is_head : Head → Option Head → Bool
 is_head t None = false
 is_head t (Some h) = is_eq (head_cmp t h)
@@ -94,6 +99,10 @@ pub record AreHeads (ranks : List Rank) (heads : List Head) : Type 0 where
 pub record AreHeadsBut (job : List ℕ) (ranks : List Rank) (heads : List Head) : Type 0 where
   pub rising : T (is_rising head_cmp (λ t. t) heads)
   pub exact : (t : Head) → holds_key head_cmp t heads ≡ (not (is_eq (name_cmp t.job job)) && is_head t (head_of t.job ranks))
+
+-- the heads of these ranks are no more than so many
+abbrev pub HasHeadsUpTo : ℕ → List Rank → Type 0
+HasHeadsUpTo most ranks = (heads : List Head) → AreHeads ranks heads → length heads ≤ most
 
 -- the three lists are those of these tasks
 pub record AreTaskLists (tasks : List Task) (l : Lists) : Type 0 where

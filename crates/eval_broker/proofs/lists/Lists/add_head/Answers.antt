@@ -1,8 +1,11 @@
 use Rattle.std.proofs.Common.{List, Some, None, sym, subst}
 use Rattle.eval_broker.specs.declared.ranks.Head.{Head}
 use Rattle.eval_broker.specs.Inner.Lists.{AreHeads}
-use Rattle.eval_broker.proofs.Heads.{head_added}
+use Rattle.eval_broker.proofs.Heads.{head_added, head_space}
 use Rattle.eval_broker.proofs.lists.Lists.add_head.Goals as goal
+
+pub put-requires : goal.put-requires
+put-requires c = head_space c.args.job.now c.args.self.now.ranks.rows c.args.self.now.heads.rows c.args.self.now.heads.capacity c.requires.capacity c.in-Some.head (sym c.in-Some.ensures) c.requires.heads
 
 pub returns-in-Some-clause-heads : goal.returns-in-Some-clause-heads
 returns-in-Some-clause-heads c =

@@ -4,7 +4,7 @@ use Rattle.fsm_tables.specs.ReservedTables.{without}
 use Rattle.fsm_tables.specs.Urgencies.{urgency_cmp}
 use Rattle.group_model.specs.Brokers.{task_id}
 use Rattle.eval_broker.specs.Inner.Lists.{rank_cmp}
-use Rattle.eval_broker.proofs.Heads.{head_capacity}
+use Rattle.eval_broker.proofs.Heads.{few_heads}
 use Rattle.eval_broker.proofs.Relisting.{heads_out, ranks_out, failed_out, all_listed, none_goes, no_more}
 use Rattle.eval_broker.proofs.lists.Lists.take_out.Goals as goal
 
@@ -21,9 +21,8 @@ add_head-requires-clause-capacity c =
     let to = c.cut.ensures.rows ∙ (λ i. without rank_cmp (λ x. x) c.rank.result (c.drop_head.ensures.ranks i).rows) in
     let few : length (without eval_cmp task_id id ts) ≤ length ts = no_more id ts in
     let most : length (without eval_cmp task_id id ts) ≤ c.drop_head.new.self.heads.capacity = omega (arith, few, c.requires.capacity.heads, c.drop_head.ensures.capacity) in
-    head_capacity c.job-job.result (without eval_cmp task_id id ts) c.cut.new.self.rows c.drop_head.new.self.heads.rows c.drop_head.new.self.heads.capacity most
+    few_heads (without eval_cmp task_id id ts) c.cut.new.self.rows c.drop_head.new.self.heads.capacity most
     (ranks_out id ts task c.rank.result c.args.self.now.ranks.rows c.cut.new.self.rows (sym c.in-Some.ensures) c.rank.ensures to c.requires.listed.ranks)
-    (heads_out c.job-job.result task c.rank.result c.args.self.now.ranks.rows c.cut.new.self.rows c.drop_head.new.self.heads.rows c.job-job.ensures c.rank.ensures to c.drop_head.ensures.heads)
 
 pub returns-in-Some-clause-listed : goal.returns-in-Some-clause-listed
 returns-in-Some-clause-listed c =
