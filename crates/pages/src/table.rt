@@ -173,8 +173,7 @@ impl<T: CopiedRow> Table<T> {
         ensures few { length self.old ≤ most → length self.new ≤ most }
     {
         self.ranges();
-        let has_row = self.get(row.key()).is_some();
-        if has_row || self.len() < most {
+        if self.len() < most || self.get(row.key()).is_some() {
             self.put(row)?;
         }
         Ok(())
