@@ -1,4 +1,4 @@
-ghost use Rattle.std.specs.Prelude.{◌≡◌, ◌≤◌, OnOk, OnErr, IfOk, filter, option_map, length};
+ghost use Rattle.std.specs.Prelude.{◌≡◌, ◌≤◌, OnOk, OnErr, IfOk, filter, option_map, length, if◌then◌else◌};
 ghost use Rattle.std.specs.Ordering.{nat_cmp};
 ghost use Rattle.rows.specs.Keys.{name_cmp, eval_cmp, alloc_cmp, job_name, node_number, eval_id, alloc_id};
 ghost use Rattle.fsm_tables.specs.Rows.{row_of, put_within};
@@ -230,6 +230,18 @@ impl Tables {
         ensures err { OnErr result (self.new ≡ self.old) }
     {
         self.jobs.put_within(Tables::MOST_JOBS, row)
+    }
+
+    /// Puts a row as `put_job` does, and says whether the job has a row now: if so, this one.
+    pub fn put_job_within(&mut self, row: Job) -> Result<bool, NoMemory>
+        ensures ok { OnOk result (self.new ≡ record self.old { jobs = put_within name_cmp job_name 256 row self.old.jobs }) }
+        ensures row { IfOk result (λ is_there. row_of name_cmp job_name row.name self.new.jobs
+            ≡ (if is_there then Some row else None)) }
+        ensures err { OnErr result (self.new ≡ self.old) }
+    {
+        let is_there = self.jobs.len() < Tables::MOST_JOBS || self.jobs.get(&row.name).is_some();
+        self.jobs.put_within(Tables::MOST_JOBS, row)?;
+        Ok(is_there)
     }
 
     /// Makes or replaces the row of the node, and changes no other; a new row is not made where
