@@ -14,6 +14,7 @@ mod plans;
 pub(crate) mod reports;
 
 use crate::cluster::Cluster;
+use crate::new_evaluations::evaluation;
 use rows::{
     AcceptedPlan, AllocId, ClientState, Command, EntryIndex, EvalId, JobName, JobSpec, NoMemory,
     NodeId, NodeStatus, Report, StatusChange,
@@ -27,8 +28,12 @@ impl Cluster {
             self.new ≡ evaluations_created (is_named spec.now.name)
             (with_job_row spec.now self.old)) }
     {
-        self.put_job_row(spec)?;
-        self.create_evaluation(entry, &spec.name)
+        self.ranges();
+        let is_there = self.put_job_row(spec)?;
+        if is_there {
+            return self.put_eval(evaluation(entry, 0, spec.name, spec.priority));
+        }
+        Ok(())
     }
 
     /// Stops a job, and touches it.

@@ -1,5 +1,5 @@
 //! The replicated state as a value: its rows, and one row put.
-ghost use Rattle.std.specs.Prelude.{◌≡◌, ◌∷◌, [], ◌+◌, ◌<◌, ◌^◌, ◌||◌, not, OnOk, OnErr, IfOk, filter, option_map, T as Holds};
+ghost use Rattle.std.specs.Prelude.{◌≡◌, ◌∷◌, [], ◌+◌, ◌<◌, ◌^◌, ◌||◌, not, Some, None, OnOk, OnErr, IfOk, filter, option_map, T as Holds, if◌then◌else◌};
 ghost use Rattle.std.specs.List.{list_any};
 ghost use Rattle.fsm_tables.specs.Claims.{claim_of, claims, used, is_live};
 ghost use Rattle.fsm_tables.specs.LiveNames.{live_named};
@@ -242,6 +242,15 @@ impl Cluster {
         ensures { OnOk result (self.new ≡ put_job row self.old) }
     {
         self.tables.put_job(row)
+    }
+
+    /// Puts a row as `put_job` does, and says whether the job has a row now: if so, this one.
+    pub(crate) fn put_job_within(&mut self, row: Job) -> Result<bool, NoMemory>
+        ensures ok { OnOk result (self.new ≡ put_job row self.old) }
+        ensures row { IfOk result (λ is_there. job_of row.name self.new
+            ≡ (if is_there then Some row else None)) }
+    {
+        self.tables.put_job_within(row)
     }
 
     /// Makes or replaces the row of the node.

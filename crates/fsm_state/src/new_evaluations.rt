@@ -1,11 +1,11 @@
 //! Evaluations that are made to touch jobs.
 ghost use Rattle.std.specs.Prelude.{◌≡◌, ◌≢◌, ◌≤◌, ◌∷◌, None, OnOk, OnErr, length, filter};
 ghost use Rattle.fsm_model.specs.Words.{job_of};
-ghost use Rattle.fsm_model.specs.Effect.{new_eval, evaluations_created, is_named};
-ghost use Rattle.fsm_state.specs.Inner.Steps.{touched_at, jobs_at, is_named_in, AddsNames};
+ghost use Rattle.fsm_model.specs.Effect.{evaluations_created, is_named};
+ghost use Rattle.fsm_state.specs.Inner.Steps.{eval_for, touched_at, jobs_at, is_named_in, AddsNames};
 
 use crate::cluster::Cluster;
-use rows::{EntryIndex, EvalId, EvalStatus, Evaluation, Index, Job, JobName, NoMemory};
+use rows::{EntryIndex, EvalId, EvalStatus, Evaluation, Index, JobName, NoMemory, Priority};
 use std::collections::BTreeSet;
 
 /// Adds a name, unless it is there. It takes time in the logarithm of the names.
@@ -16,14 +16,19 @@ pub(crate) fn add_name(names: &mut BTreeSet<JobName>, name: JobName) -> Result<(
     Ok(())
 }
 
-/// The evaluation that touches a job.
-fn evaluation(entry: EntryIndex, slot: u8, job: &Job) -> Evaluation
-    ensures { result ≡ new_eval entry slot job.now }
+/// The evaluation that touches a job of this name and this priority.
+pub(crate) fn evaluation(
+    entry: EntryIndex,
+    slot: u8,
+    job: JobName,
+    priority: Priority,
+) -> Evaluation
+    ensures { result ≡ eval_for entry slot job priority }
 {
     Evaluation {
         id: EvalId { index: entry, slot },
-        job: job.name,
-        priority: job.priority,
+        job,
+        priority,
         status: EvalStatus::Pending,
         snapshot: Index::ZERO,
     }
@@ -44,7 +49,7 @@ impl Cluster {
         self.ranges();
         match self.job(name) {
             Some(job) => {
-                let eval = evaluation(entry, 0, job);
+                let eval = evaluation(entry, 0, job.name, job.priority);
                 self.put_eval(eval)
             }
             None => Ok(()),
@@ -60,7 +65,7 @@ impl Cluster {
         let mut slot: usize = 0;
         for name in names {
             if let Some(job) = self.job(name) {
-                let eval = evaluation(entry, slot as u8, job);
+                let eval = evaluation(entry, slot as u8, job.name, job.priority);
                 self.put_eval(eval)?;
                 slot += 1;
             }

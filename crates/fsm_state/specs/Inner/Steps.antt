@@ -9,6 +9,7 @@ use Rattle.rows.specs.declared.job.Job.{Job}
 use Rattle.rows.specs.declared.node.Node.{Node}
 use Rattle.rows.specs.declared.evaluation.EvalId.{EvalId}
 use Rattle.rows.specs.declared.evaluation.Evaluation.{Evaluation}
+use Rattle.rows.specs.declared.evaluation.EvalStatus.TheVariants as eval_statuses
 use Rattle.rows.specs.declared.allocation.Desired.TheVariants as desires
 use Rattle.rows.specs.declared.allocation.ClientState.{ClientState}
 use Rattle.rows.specs.declared.allocation.AllocId.{AllocId}
@@ -50,6 +51,16 @@ put_eval e s = record s { evals = put_within eval_cmp eval_id most_evals e s.eva
 
 abbrev pub put_alloc : Allocation → State → State
 put_alloc a s = record s { allocs = put_within alloc_cmp alloc_id most_allocs a s.allocs }
+
+-- the evaluation that touches a job of a name and a priority
+abbrev pub eval_for : ℕ → ℕ → List ℕ → ℕ → Evaluation
+eval_for x slot name priority = record {
+  id = record { index = x; slot = slot };
+  job = name;
+  priority = priority;
+  status = eval_statuses.Pending;
+  snapshot = 0;
+}
 
 abbrev pub job_changed : (Job → Job) → List ℕ → State → State
 job_changed f name s = record s { jobs = with_row_changed name_cmp job_name most_jobs f name s.jobs }

@@ -1,5 +1,5 @@
 //! Rows of jobs that are made and stopped.
-ghost use Rattle.std.specs.Prelude.{◌≡◌, ◌≢◌, OnOk, OnErr, IfOk, None, false, true};
+ghost use Rattle.std.specs.Prelude.{◌≡◌, ◌≢◌, OnOk, OnErr, IfOk, Some, None, false, true, if◌then◌else◌};
 ghost use Rattle.fsm_model.specs.Words.{job_of};
 ghost use Rattle.fsm_model.specs.Effect.{with_job_row, job_row, stopped_row};
 ghost use Rattle.fsm_state.specs.Inner.Steps.{job_changed};
@@ -35,12 +35,15 @@ fn stopped_job(alloc: Global, job: &Job, version: Index) -> Result<Job, NoMemory
 }
 
 impl Cluster {
-    /// Makes the row of a job, or replaces it.
-    pub(super) fn put_job_row(&mut self, spec: &JobSpec) -> Result<(), NoMemory>
-        ensures { OnOk result (self.new ≡ with_job_row spec.now self.old) }
+    /// Makes the row of a job, or replaces it, and says whether the job has a row now: if so, this
+    /// one.
+    pub(super) fn put_job_row(&mut self, spec: &JobSpec) -> Result<bool, NoMemory>
+        ensures ok { OnOk result (self.new ≡ with_job_row spec.now self.old) }
+        ensures row { IfOk result (λ is_there. job_of spec.now.name self.new
+            ≡ (if is_there then Some (job_row self.old.count spec.now) else None)) }
     {
         let row = new_job(self.memory(), spec, self.applied())?;
-        self.put_job(row)
+        self.put_job_within(row)
     }
 
     /// Stops a job.

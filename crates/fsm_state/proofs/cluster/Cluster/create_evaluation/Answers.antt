@@ -1,6 +1,6 @@
 use Rattle.std.proofs.Common.{◌≡◌, Some, None, sym, ◌∙◌}
-use Rattle.fsm_model.specs.Effect.{new_eval, evaluations_created, is_named}
-use Rattle.fsm_state.specs.Inner.Steps.{put_eval}
+use Rattle.fsm_model.specs.Effect.{evaluations_created, is_named}
+use Rattle.fsm_state.specs.Inner.Steps.{put_eval, eval_for}
 use Rattle.fsm_state.proofs.Touching.{touched_found}
 use Rattle.fsm_state.proofs.Retold.{retold}
 use Rattle.fsm_state.proofs.cluster.Cluster.create_evaluation.Goals as goal
@@ -12,7 +12,7 @@ returns-in-Some-clause-ok c =
     let job = c.in-Some.job.now in
     let e : put_eval c.evaluation-eval.result s ≡ evaluations_created (is_named name) s =
     (λ i. put_eval (c.evaluation-eval.ensures i) s)
-    ∙ (λ i. put_eval (new_eval (c.requires i) 0 job) s)
+    ∙ (λ i. put_eval (eval_for (c.requires i) 0 job.name job.priority) s)
     ∙ touched_found name (Some job) s c.ranges-2.ensures.tables.jobs.rising (sym c.in-Some.ensures) in
     retold c.put_eval.result c.put_eval.new.self _ _ e c.put_eval.ensures
 
