@@ -98,7 +98,7 @@ impl Agent {
         ensures { result ≡ option_map (λ l. l.seen) self.now.client.life }
     {
         match &self.life {
-            Some(life) => Some(life.last_index()),
+            Some(life) => Some(life.last_list()),
             None => None,
         }
     }
@@ -182,7 +182,7 @@ impl Agent {
         let Some(mut life) = self.life.take() else {
             unreachable!()
         };
-        if list.index.get() < life.last_index().get() {
+        if list.index.get() < life.last_list().get() {
             self.life = Some(life);
             return Ok(());
         }

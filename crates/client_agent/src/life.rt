@@ -48,7 +48,7 @@ impl Life {
     }
 
     /// The index of the last list that was taken, or 0.
-    pub fn last_index(&self) -> Index
+    pub fn last_list(&self) -> Index
         ensures { result ≡ self.now.seen }
     {
         self.seen

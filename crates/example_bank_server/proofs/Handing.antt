@@ -16,7 +16,7 @@ use Rattle.raft_model.specs.Steps.{Beat, Compact, Propose, Timeout}
 use Rattle.raft_core.specs.Inputs.{Bytes, Handed, Own}
 use Rattle.raft_core.specs.RaftView.{RaftView, SameNumber, SameRaft}
 use Rattle.raft_core.specs.Refusals.{IsRefused, Stays, refusal, refusal_by}
-use Rattle.raft_core.specs.Steps.{Refines, Takes}
+use Rattle.raft_core.specs.Steps.{RefinesRaft, Takes}
 use Rattle.raft_core.specs.StoredParts.{KeepsLog, MayKeepLog}
 use Rattle.raft_core.specs.Tickets.{IsTicket, proposal_status_of}
 use Rattle.raft_core.specs.declared.ticket.ProposalStatus.{ProposalStatus}
@@ -94,7 +94,7 @@ module _ {S C : Type 0} (m : MachineSpec S C) (item : List ℕ) where
 
   module _ (text : List ℕ) (command : C) (old new : RaftView S C) (is : is_proposal item ≡ true) (behind : text ≡ drop 1 item) (read : whole (m.commands newest) text ≡ Ok command) where
     proposal_taken : IsBytes item → SameNumber old new → (new.base ≡ old.base) × (new.server ≡ extended old.server command)
-        → ((s : Raft C) (sent : List Frame) → Refines m old s → Takes m old s (Own (Propose command)) new sent sent) → IsTaken m item old new []
+        → ((s : Raft C) (sent : List Frame) → RefinesRaft m old s → Takes m old s (Own (Propose command)) new sent sent) → IsTaken m item old new []
     proposal_taken bytes same shows takes = record {
       bytes = bytes;
       handed = Own (Propose command);
@@ -108,7 +108,7 @@ module _ {S C : Type 0} (m : MachineSpec S C) (item : List ℕ) where
           record { least = omega (arith, stays, base, covered); most = inl (omega (arith, stays, base, covered)) };
     }
 
-    pub proposal_declined : (cause : Refusal) → SameRaft old new → ((s : Raft C) → Refines m old s → IsRefused m old.size old.me s (Own (Propose command)) cause) → IsDeclined m item old new cause
+    pub proposal_declined : (cause : Refusal) → SameRaft old new → ((s : Raft C) → RefinesRaft m old s → IsRefused m old.size old.me s (Own (Propose command)) cause) → IsDeclined m item old new cause
     proposal_declined refusals.NoMemory same why = tt
     proposal_declined _ same why = (same, by_server (Own (Propose command)) (proposal_asks text (Ok command) is behind read) why)
 
@@ -116,8 +116,8 @@ module _ {S C : Type 0} (m : MachineSpec S C) (item : List ℕ) where
     asks : asked m item ≡ Ok h
     asks = other_asks is ∙ ap Ok (sym of)
 
-    step_taken : IsBytes item → (before after : List Frame) → before ≡ [] → ((s : Raft C) → Refines m old s → Takes m old s h new before after)
-        → ((s : Raft C) → Refines m old s → refusal m old.size old.me s h ≡ None) → SameNumber old new → IsCompacted new.base new.server → IsTaken m item old new after
+    step_taken : IsBytes item → (before after : List Frame) → before ≡ [] → ((s : Raft C) → RefinesRaft m old s → Takes m old s h new before after)
+        → ((s : Raft C) → RefinesRaft m old s → refusal m old.size old.me s h ≡ None) → SameNumber old new → IsCompacted new.base new.server → IsTaken m item old new after
     step_taken bytes before after none takes admitted same shows = record {
       bytes = bytes;
       handed = h;
@@ -128,7 +128,7 @@ module _ {S C : Type 0} (m : MachineSpec S C) (item : List ℕ) where
       covers = λ _. record { least = omega (arith, shows.count); most = inl (omega (arith, shows.count)) };
     }
 
-    pub step_declined : (cause : Refusal) → Stays h cause old new → ((s : Raft C) → Refines m old s → IsRefused m old.size old.me s h cause) → IsDeclined m item old new cause
+    pub step_declined : (cause : Refusal) → Stays h cause old new → ((s : Raft C) → RefinesRaft m old s → IsRefused m old.size old.me s h cause) → IsDeclined m item old new cause
     step_declined refusals.NoMemory same why = tt
     step_declined _ same why = (same_view old new same, by_server h asks why)
 
@@ -148,7 +148,7 @@ module _ {S C : Type 0} (m : MachineSpec S C) (item : List ℕ) where
     shown_made view line before after is shows put = (LineReported line ∷ [], shown line is refl shows refl, put)
 
     pub told_made : (view : RaftView S C) (text line word : List ℕ) (at : ℕ × ℕ) (index term : ℕ) (standing : Option ProposalStatus) (before after : List IoEvent) → is_question item ≡ true
-        → text ≡ drop 1 item → whole ticket text ≡ Ok at → index ≡ at.0 → term ≡ at.1 → ((s : Raft C) → Refines m view s → standing ≡ proposal_status_of s at.0 at.1)
+        → text ≡ drop 1 item → whole ticket text ≡ Ok at → index ≡ at.0 → term ≡ at.1 → ((s : Raft C) → RefinesRaft m view s → standing ≡ proposal_status_of s at.0 at.1)
         → word ≡ proposal_word standing → line ≡ proposal_line index term word → after ≡ before ++ LineReported line ∷ [] → Made view view before after
     told_made view text line word at index term standing before after is behind read index_is term_is stands word_is line_is put =
         let here = subst (λ t. whole ticket t ≡ Ok at) behind read in
@@ -167,8 +167,8 @@ module _ {S C : Type 0} (m : MachineSpec S C) (item : List ℕ) where
 
     pub proposed_made : (old new : RaftView S C) (text line : List ℕ) (command : C) (index term : ℕ) (before after : List IoEvent) → is_proposal item ≡ true → text ≡ drop 1 item
         → whole (m.commands newest) text ≡ Ok command → IsBytes item → SameNumber old new → (new.base ≡ old.base) × (new.server ≡ extended old.server command)
-        → ((s : Raft C) (sent : List Frame) → Refines m old s → Takes m old s (Own (Propose command)) new sent sent)
-        → ((s : Raft C) → Refines m new s → IsTicket s command index term) → line ≡ ticket_line index term → after ≡ before ++ LineReported line ∷ [] → Made old new before after
+        → ((s : Raft C) (sent : List Frame) → RefinesRaft m old s → Takes m old s (Own (Propose command)) new sent sent)
+        → ((s : Raft C) → RefinesRaft m new s → IsTicket s command index term) → line ≡ ticket_line index term → after ≡ before ++ LineReported line ∷ [] → Made old new before after
     proposed_made old new text line command index term before after is behind read bytes same shows takes stands line_is put =
         let here = subst (λ t. whole (m.commands newest) t ≡ Ok command) behind read in (
           LineReported line ∷ [],
@@ -177,8 +177,8 @@ module _ {S C : Type 0} (m : MachineSpec S C) (item : List ℕ) where
         )
 
     pub taken_made : (h : Handed C) (old new : RaftView S C) (none frames : List Frame) (before after : List IoEvent) → item ≢ codes "S" → is_proposal item ≡ false → is_question item ≡ false
-        → h ≡ input_of item → none ≡ [] → IsBytes item → ((s : Raft C) → Refines m old s → Takes m old s h new none frames)
-        → ((s : Raft C) → Refines m old s → refusal m old.size old.me s h ≡ None) → SameNumber old new → IsCompacted new.base new.server → after ≡ before ++ sends frames → Made old new before after
+        → h ≡ input_of item → none ≡ [] → IsBytes item → ((s : Raft C) → RefinesRaft m old s → Takes m old s h new none frames)
+        → ((s : Raft C) → RefinesRaft m old s → refusal m old.size old.me s h ≡ None) → SameNumber old new → IsCompacted new.base new.server → after ≡ before ++ sends frames → Made old new before after
     taken_made h old new none frames before after other no_proposal no_question of empty bytes takes admitted same shows put =
         (sends frames, taken frames other no_proposal no_question (step_taken h old new no_proposal of bytes none frames empty takes admitted same shows) refl, put)
 

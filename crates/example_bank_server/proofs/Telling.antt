@@ -9,7 +9,7 @@ use Rattle.machine_model.specs.MachineSpec.{MachineSpec}
 use Rattle.raft_model.specs.Logs.{state_after}
 use Rattle.raft_model.specs.Rafts.{Raft, is_up}
 use Rattle.raft_core.specs.RaftView.{RaftView}
-use Rattle.raft_core.specs.Steps.{Refines, role_of}
+use Rattle.raft_core.specs.Steps.{RefinesRaft, role_of}
 use Rattle.example_bank_server.specs.Lines.{Shows, ShowsState, up, applied_text, balance_text, role_word, server_text}
 
 -- it holds whatever the call answered
@@ -46,7 +46,7 @@ balances_more balances i x old mid new front y at same first second =
 
 module _ {S C : Type 0} (m : MachineSpec S C) (words : S → List ℕ) (view : RaftView S C) where
   pub state_put : (state : S) (applied : ℕ) (old mid new : List ℕ) → is_up view.server.mode ≡ true
-      → ((s : Raft C) → Refines m view s → state ≡ state_after m (take s.commit s.log)) → applied ≡ view.server.commit
+      → ((s : Raft C) → RefinesRaft m view s → state ≡ state_after m (take s.commit s.log)) → applied ≡ view.server.commit
       → mid ≡ old ++ applied_text applied → new ≡ mid ++ words state
       → (told : List ℕ) × ShowsState m words view told × (new ≡ old ++ told)
   state_put state applied old mid new lives is count first second =

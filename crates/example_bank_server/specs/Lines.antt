@@ -13,7 +13,7 @@ use Rattle.raft_core.specs.declared.role.Role.TheVariants as roles
 use Rattle.raft_core.specs.declared.ticket.ProposalStatus.{ProposalStatus}
 use Rattle.raft_core.specs.declared.ticket.ProposalStatus.TheVariants as statuses
 use Rattle.raft_core.specs.RaftView.{RaftView}
-use Rattle.raft_core.specs.Steps.{Refines, role_of}
+use Rattle.raft_core.specs.Steps.{RefinesRaft, role_of}
 use Rattle.example_bank.specs.BankState.{BankState}
 
 -- `refused N: WORDS`: the refusal's number, and what is wrong, in the machine's words if it has some
@@ -75,7 +75,7 @@ bank_words s = codes " balances" ++ flat_map balance_text s.balances
 pub data ShowsState {S C : Type 0} (m : MachineSpec S C) (words : S → List ℕ) (view : RaftView S C) (told : List ℕ) : Type 0 where
   down : is_up view.server.mode ≡ false → told ≡ [] → ShowsState m words view told
   up : (state : S) → is_up view.server.mode ≡ true
-      → ((s : Raft C) → Refines m view s → state ≡ state_after m (take s.commit s.log))
+      → ((s : Raft C) → RefinesRaft m view s → state ≡ state_after m (take s.commit s.log))
       → told ≡ applied_text view.server.commit ++ words state → ShowsState m words view told
 
 -- The line of a server: what it does, its term, how long its log is, and its state.

@@ -4,7 +4,7 @@ use Rattle.rows.specs.declared.refusal.Refusal.{Refusal}
 use Rattle.machine_model.specs.MachineSpec.{MachineSpec}
 use Rattle.raft_model.specs.Rafts.{Raft, restarted}
 use Rattle.raft_core.specs.RaftView.{RaftView}
-use Rattle.raft_core.specs.Steps.{IsGroupMember, Refines, Stores}
+use Rattle.raft_core.specs.Steps.{IsGroupMember, RefinesRaft, Stores}
 use Rattle.raft_core.specs.StoredParts.{stored_part}
 use Rattle.raft_snapshot.specs.Stored.{Stored}
 use Rattle.wire.specs.Frames.{IsFrame}
@@ -25,7 +25,7 @@ module _ {S C : Type 0} (m : MachineSpec S C) where
     pub member : IsGroupMember size me
     pub place : (view.me ≡ me) × (view.size ≡ size)
     pub stored : IsStored m (header_text size me) store (stored_part view)
-    pub server : (s : Raft C) → Stores m (stored_part view) s → Refines m view (restarted s)
+    pub server : (s : Raft C) → Stores m (stored_part view) s → RefinesRaft m view (restarted s)
 
   -- the item is the frame of a message
   abbrev pub IsFrameItem : List ℕ → Type 0

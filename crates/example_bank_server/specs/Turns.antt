@@ -10,7 +10,7 @@ use Rattle.raft_model.specs.Rafts.{Raft}
 use Rattle.raft_core.specs.Inputs.{Handed}
 use Rattle.raft_core.specs.RaftView.{RaftView, SameNumber, SameRaft}
 use Rattle.raft_core.specs.Refusals.{IsRefused, refusal}
-use Rattle.raft_core.specs.Steps.{Refines, Takes}
+use Rattle.raft_core.specs.Steps.{RefinesRaft, Takes}
 use Rattle.raft_core.specs.Tickets.{IsTicket, proposal_status_of}
 use Rattle.journal.specs.Events.{IoEvent, BytesSent, LineReported}
 use Rattle.process_lives.specs.Servers.{CoversAll}
@@ -28,8 +28,8 @@ module _ {S C : Type 0} (m : MachineSpec S C) where
     pub bytes : IsBytes item
     pub handed : Handed C
     pub is : asked m item ≡ Ok handed
-    pub step : (s : Raft C) → Refines m old s → Takes m old s handed new [] frames
-    pub admitted : (s : Raft C) → Refines m old s → refusal m old.size old.me s handed ≡ None
+    pub step : (s : Raft C) → RefinesRaft m old s → Takes m old s handed new [] frames
+    pub admitted : (s : Raft C) → RefinesRaft m old s → refusal m old.size old.me s handed ≡ None
     pub same : SameNumber old new
     pub covers : old.server.covered ≡ old.base.index → CoversAll new
 
@@ -39,7 +39,7 @@ module _ {S C : Type 0} (m : MachineSpec S C) where
     at_fault : (place : ℕ) → asked m item ≡ Err place → cause ≡ refusals.Frame place → MayRefuse item view cause
     no_ticket : (place : ℕ) → is_question item ≡ true → whole ticket (drop 1 item) ≡ Err place → cause ≡ refusals.Frame place → MayRefuse item view cause
     by_server : (handed : Handed C) → asked m item ≡ Ok handed
-        → ((s : Raft C) → Refines m view s → IsRefused m view.size view.me s handed cause)
+        → ((s : Raft C) → RefinesRaft m view s → IsRefused m view.size view.me s handed cause)
         → MayRefuse item view cause
 
   -- the same server, which may refuse the item so; of want of memory nothing is said
@@ -54,12 +54,12 @@ module _ {S C : Type 0} (m : MachineSpec S C) where
     taken : (frames : List Frame) → item ≢ codes "S" → is_proposal item ≡ false → is_question item ≡ false → IsTaken item old new frames
         → events ≡ sends frames → Turn words reason item old new events
     proposed : (command : C) (index term : ℕ) → is_proposal item ≡ true → whole (m.commands newest) (drop 1 item) ≡ Ok command → IsTaken item old new []
-        → ((s : Raft C) → Refines m new s → IsTicket s command index term)
+        → ((s : Raft C) → RefinesRaft m new s → IsTicket s command index term)
         → events ≡ LineReported (ticket_line index term) ∷ [] → Turn words reason item old new events
     refused : (cause : Refusal) → item ≢ codes "S" → SameRaft old new → cause ≢ refusals.NoMemory
         → MayRefuse item old cause → events ≡ LineReported (refused_line reason cause) ∷ [] → Turn words reason item old new events
     shown : (line : List ℕ) → item ≡ codes "S" → new ≡ old → Shows m words old line
         → events ≡ LineReported line ∷ [] → Turn words reason item old new events
     told : (index term : ℕ) (word : List ℕ) → is_question item ≡ true → whole ticket (drop 1 item) ≡ Ok (index, term) → new ≡ old
-        → ((s : Raft C) → Refines m old s → word ≡ proposal_word (proposal_status_of s index term))
+        → ((s : Raft C) → RefinesRaft m old s → word ≡ proposal_word (proposal_status_of s index term))
         → events ≡ LineReported (proposal_line index term word) ∷ [] → Turn words reason item old new events

@@ -4,7 +4,7 @@ ghost use Rattle.std.specs.Prelude.{◌≡◌, ◌≤◌, ℕ, None, Some, IfErr
 ghost use Rattle.rows.specs.Versions.{newest};
 ghost use Rattle.fields_model.specs.Format.{Gives, whole};
 ghost use Rattle.raft_snapshot.specs.Texts.{front};
-ghost use Rattle.raft_core.specs.Steps.{IsGroupMember, Refines, Stores};
+ghost use Rattle.raft_core.specs.Steps.{IsGroupMember, RefinesRaft, Stores};
 ghost use Rattle.raft_core.specs.StoredParts.{stored_part};
 ghost use Rattle.raft_model.specs.Rafts.{Raft as AnyRaft, restarted};
 ghost use Rattle.example_bank_server.specs.Lives.{BeginsWith, header_text};
@@ -47,7 +47,7 @@ pub fn begin<M: Machine>(
     ensures stored { IfOk result (λ server. IsStored M.spec header.now
         (option_map (λ text. text.now) stored.entry) (stored_part server)) }
     ensures server { IfOk result (λ server. (s : AnyRaft M.Command) →
-        Stores M.spec (stored_part server) s → Refines M.spec server (restarted s)) }
+        Stores M.spec (stored_part server) s → RefinesRaft M.spec server (restarted s)) }
     ensures begins { IfOk result (λ server. header.now ≡ header_text size me →
         BeginsWith M.spec size me (option_map (λ text. text.now) stored.entry) server) }
     ensures outside { IfErr result (λ error. error ≡ errors.NoMember → IsGroupMember size me → ⊥) }

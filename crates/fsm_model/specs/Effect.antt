@@ -188,8 +188,8 @@ abbrev pub set_status : EvalId → StatusChange → Evaluation → Evaluation
 set_status id to e =
     if same_eval e.id id && is_open e.status then (record e { status = status_of to; snapshot = snapshot_of to }) else e
 
-abbrev pub eval_status : EvalId → StatusChange → State → State
-eval_status id to s = record s { evals = map (set_status id to) s.evals }
+abbrev pub set_eval_status : EvalId → StatusChange → State → State
+set_eval_status id to s = record s { evals = map (set_status id to) s.evals }
 
 -- ---- allocations that end by a change of rows: their nodes have room from this command on
 
@@ -276,6 +276,6 @@ applied s (commands.Drain n force) = drain_node n force (with_next_count s)
 applied s (commands.DrainDone n) = drain_done n (with_next_count s)
 applied s (commands.Migrate ids) = migrate ids (with_next_count s)
 applied s (commands.EvalPut name) = evaluations_created (is_named name) (with_next_count s)
-applied s (commands.EvalStatus id to) = eval_status id to (with_next_count s)
+applied s (commands.EvalStatus id to) = set_eval_status id to (with_next_count s)
 applied s (commands.Plan p) = planned p (with_next_count s)
 applied s (commands.Report n rs) = reported n rs (with_next_count s)

@@ -1,7 +1,7 @@
 //! The effect of each command.
 ghost use Rattle.std.specs.Prelude.{◌≡◌, ◌≢◌, ◌+◌, ◌<◌, ◌^◌, None, OnOk, OnErr};
 ghost use Rattle.fsm_model.specs.Words.{job_of, node_of, eval_of};
-ghost use Rattle.fsm_model.specs.Effect.{applied, evaluations_created, is_named, with_job_row, with_job_stopped, node_down, disconnect, unreached, downed, drain_node, drain_done, migrate, eval_status, planned, reported};
+ghost use Rattle.fsm_model.specs.Effect.{applied, evaluations_created, is_named, with_job_row, with_job_stopped, node_down, disconnect, unreached, downed, drain_node, drain_done, migrate, set_eval_status, planned, reported};
 ghost use Rattle.fsm_state.specs.Memory.{EffectMayEndOutOfMemory};
 
 mod allocs;
@@ -140,7 +140,7 @@ impl Cluster {
 
     /// Sets the status of an evaluation.
     fn eval_status(&mut self, id: EvalId, change: &StatusChange) -> Result<(), NoMemory>
-        ensures ok { OnOk result (self.new ≡ eval_status id change.now self.old) }
+        ensures ok { OnOk result (self.new ≡ set_eval_status id change.now self.old) }
         ensures memory { OnErr result (eval_of id self.old ≢ None) }
     {
         self.ranges();

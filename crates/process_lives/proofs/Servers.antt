@@ -25,7 +25,7 @@ use Rattle.raft_core.specs.Frames.{IsFrameOf, FrameCarries}
 use Rattle.raft_core.specs.Inputs.{Handed, Bytes, Own, Reads}
 use Rattle.raft_core.specs.RaftView.{RaftView, SameRaft}
 use Rattle.raft_core.specs.Refusals.{refusal, frame_refusal, unreadable, message_fault, misdirected, is_server_of, is_server_at}
-use Rattle.raft_core.specs.Steps.{Refines, Stores}
+use Rattle.raft_core.specs.Steps.{RefinesRaft, Stores}
 use Rattle.raft_core.specs.StoredParts.{stored_part}
 use Rattle.journal.specs.Events.{IoEvent, BytesCame, InputEnded, RecordAppended, JournalReplaced, BytesSent, LineReported}
 use Rattle.processes.specs.Processes.{told_by}
@@ -42,7 +42,7 @@ use Rattle.process_lives.proofs.Living.{joined}
 module _ {S C : Type 0} (m : MachineSpec S C) (n : ℕ) where
   -- this server of the definitions is what the code's value stands for
   pub record ShowsServer (k : ℕ) (v : RaftView S C) (s : Raft C) : Type 0 where
-    pub stands : Refines m v s
+    pub stands : RefinesRaft m v s
     pub me : v.me ≡ k
     pub size : v.size ≡ n
     pub based : v.base.index ≡ s.covered
@@ -61,7 +61,7 @@ module _ {S C : Type 0} (m : MachineSpec S C) (n : ℕ) where
     covered = is.based;
   }
 
-  pub shows_started : (k : ℕ) (v : RaftView S C) (q : Persistent C) → (v.me ≡ k) × (v.size ≡ n) → ((s : Raft C) → Stores m (stored_part v) s → Refines m v (restarted s)) → Stores m (stored_part v) (started q)
+  pub shows_started : (k : ℕ) (v : RaftView S C) (q : Persistent C) → (v.me ≡ k) × (v.size ≡ n) → ((s : Raft C) → Stores m (stored_part v) s → RefinesRaft m v (restarted s)) → Stores m (stored_part v) (started q)
       → ShowsServer k v (started q)
   shows_started k v q place starts stored =
       let log = stored.log in
@@ -75,7 +75,7 @@ module _ {S C : Type 0} (m : MachineSpec S C) (n : ℕ) where
         bounds = record { covered = omega arith; commit = omega (arith, stored.covered, log.fits.index, front, size) };
       }
 
-  pub covers_same : (view : RaftView S C) (t : Raft C) → Refines m view t → InBounds t → CoversAll view → view.base.index ≡ t.covered
+  pub covers_same : (view : RaftView S C) (t : Raft C) → RefinesRaft m view t → InBounds t → CoversAll view → view.base.index ≡ t.covered
   covers_same view t r bounds all =
       let same : t.covered ≡ view.server.covered = ap (λ (x : Raft C). x.covered) r.is in
       let long = ap (λ (x : Raft C). length x.log) r.is in

@@ -20,7 +20,7 @@ use Rattle.raft_snapshot.specs.Stored.{Stored}
 use Rattle.wire.specs.Frames.{Frame, IsFrame, sized}
 use Rattle.wire.specs.Messages.{Message}
 use Rattle.raft_core.specs.RaftView.{RaftView, SameNumber}
-use Rattle.raft_core.specs.Steps.{Refines, Stores}
+use Rattle.raft_core.specs.Steps.{RefinesRaft, Stores}
 use Rattle.raft_core.specs.StoredParts.{stored_part}
 use Rattle.group_frames.specs.GroupFrames.{CarriesGroup, IsGroupFrame}
 use Rattle.journal.specs.Events.{IoEvent, BytesSent, LineReported}
@@ -162,7 +162,7 @@ module _ {V : Type 0} (raft : V → RaftView State Command) (Shows : V → Serve
 
   -- each part of what makes code a server's of a group of n
   pub record RunsGroupServers (n : ℕ) (c : Code ℕ V (Stored State Command)) : Type 0 where
-    pub refines : (v : V) (s : Server) → Shows v s → Refines cluster_spec (raft v) s.raft
+    pub refines : (v : V) (s : Server) → Shows v s → RefinesRaft cluster_spec (raft v) s.raft
     pub turn : (k : ℕ) (item : List ℕ) (old new : V) (outs : List IoEvent) →
         (raft old).me ≡ k → (raft old).size ≡ n → c.Turn item old new outs →
         TurnHands n (ServerOf k) ShowsServer StaysServer item old new outs

@@ -13,7 +13,7 @@ use Rattle.wire.specs.Frames.{Frame, sized}
 use Rattle.raft_core.specs.Inputs.{Handed, Bytes, Own}
 use Rattle.raft_core.specs.RaftView.{RaftView, SameNumber, SameRaft}
 use Rattle.raft_core.specs.Refusals.{refusal}
-use Rattle.raft_core.specs.Steps.{Refines, Stores, Takes}
+use Rattle.raft_core.specs.Steps.{RefinesRaft, Stores, Takes}
 use Rattle.raft_core.specs.StoredParts.{stored_part}
 use Rattle.journal.specs.Events.{IoEvent, BytesCame, InputEnded, RecordAppended, JournalReplaced}
 use Rattle.journal.specs.Events.{BytesSent, LineReported}
@@ -70,10 +70,10 @@ module _ {S C : Type 0} (m : MachineSpec S C) (n : ℕ) (c : Code ℕ (RaftView 
   -- the server takes what the item is
   pub record TurnTakes (item : List ℕ) (old new : RaftView S C) (outs : List IoEvent) : Type 0 where
     pub handed : Handed C
-    pub means : (s : Raft C) → Refines m old s → MayMean item handed
+    pub means : (s : Raft C) → RefinesRaft m old s → MayMean item handed
     pub frames : List Frame
-    pub step : (s : Raft C) → Refines m old s → Takes m old s handed new [] frames
-    pub admitted : (s : Raft C) → Refines m old s → refusal m old.size old.me s handed ≡ None
+    pub step : (s : Raft C) → RefinesRaft m old s → Takes m old s handed new [] frames
+    pub admitted : (s : Raft C) → RefinesRaft m old s → refusal m old.size old.me s handed ≡ None
     pub same : SameNumber old new
     pub based : old.server.covered ≡ old.base.index → CoversAll new
     pub outs_are : AreFrames outs frames
@@ -93,7 +93,7 @@ module _ {S C : Type 0} (m : MachineSpec S C) (n : ℕ) (c : Code ℕ (RaftView 
         c.BeginsWith k store v → (v.me ≡ k) × (v.size ≡ n)
     pub starts : (k : ℕ) (store : Option (List ℕ)) (v : RaftView S C) →
         c.BeginsWith k store v → (s : Raft C) → Stores m (stored_part v) s →
-        Refines m v (restarted s)
+        RefinesRaft m v (restarted s)
     pub first : (k : ℕ) (v : RaftView S C) → c.BeginsWith k None v →
         Stores m (stored_part v) (started nothing_persistent)
     pub reads : (k : ℕ) (file : List ℕ) (v : RaftView S C) →
@@ -113,8 +113,8 @@ module _ {S C : Type 0} (m : MachineSpec S C) where
     pub among : OccursIn outs event
     pub before : Raft C
     pub after : Raft C
-    pub shows_before : Refines m old before
-    pub shows_after : Refines m new after
+    pub shows_before : RefinesRaft m old before
+    pub shows_after : RefinesRaft m new after
     pub agrees_before : Agree before.commit before.log list
     pub agrees_after : Agree after.commit after.log list
     pub admitted_before : Admitted m (commands before.log)

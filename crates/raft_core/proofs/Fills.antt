@@ -29,7 +29,7 @@ use Rattle.raft_core.specs.Frames.{Means, Says, Sends, base_of}
 use Rattle.raft_core.specs.Inputs.{Handed, Bytes, handed}
 use Rattle.raft_core.specs.RaftView.{RaftView, SameRaft, IsCrashOf}
 use Rattle.raft_core.specs.Refusals.{refusal, refusal_by, early_refusal, HidesNothing, IsRefused, RefusalLeaves, Stays}
-use Rattle.raft_core.specs.Steps.{Refines, Steps, Takes, TakesMessage}
+use Rattle.raft_core.specs.Steps.{RefinesRaft, Steps, Takes, TakesMessage}
 use Rattle.raft_core.specs.Inner.Moves.{Moves, MovesMessage, MovesBy, Beats, Compacts}
 use Rattle.raft_core.specs.Inner.Stops.{EndsRefused}
 use Rattle.raft_core.proofs.Sends.{sends-none}
@@ -37,7 +37,7 @@ use Rattle.raft_core.proofs.Sends.{sends-none}
 -- ---- inputs
 
 module _ {S C : Type 0} (m : MachineSpec S C) where
-  fills : (old new : RaftView S C) (before after : List Frame) (input : Input C) → IsCompacted old.base old.server → IsPlainInput input → Moves m old.base old input new before after → (s : Raft C) → Refines m old s → Steps m old s input new before after
+  fills : (old new : RaftView S C) (before after : List Frame) (input : Input C) → IsCompacted old.base old.server → IsPlainInput input → Moves m old.base old input new before after → (s : Raft C) → RefinesRaft m old s → Steps m old s input new before after
   fills old new before after input shown plain moves s r =
       let P = r.covered in
       let may = may_fill m old.base old.server shown P r.fits in
@@ -54,7 +54,7 @@ module _ {S C : Type 0} (m : MachineSpec S C) where
   came_by false among turn taken is = absurd cc
 
   -- a snapshot comes, of each list that its frame may carry
-  installs : (old new : RaftView S C) (before after : List Frame) (from to term : ℕ) (snapshot : Base S) (Q : List (Entry C)) → IsCompacted old.base old.server → IsBaseOf m snapshot Q → Moves m (base_after old.base old.server term snapshot) old (Arrives (record { from = from; to = to; term = term; body = InstallBody (noop_prefix m snapshot.index snapshot.term) })) new before after → (s : Raft C) → Refines m old s → Steps m old s (Arrives (record { from = from; to = to; term = term; body = InstallBody Q })) new before after
+  installs : (old new : RaftView S C) (before after : List Frame) (from to term : ℕ) (snapshot : Base S) (Q : List (Entry C)) → IsCompacted old.base old.server → IsBaseOf m snapshot Q → Moves m (base_after old.base old.server term snapshot) old (Arrives (record { from = from; to = to; term = term; body = InstallBody (noop_prefix m snapshot.index snapshot.term) })) new before after → (s : Raft C) → RefinesRaft m old s → Steps m old s (Arrives (record { from = from; to = to; term = term; body = InstallBody Q })) new before after
   installs old new before after from to term snapshot Q shown fits moves s r =
       let came = came_by (is_up old.server.mode) (nat_lt from old.size) (turn_of m old.size old.me old.server from term snapshot) moves.turn moves.step in
       let got = received m old.size old.me from term snapshot old.base old.server s shown r Q fits in
@@ -73,7 +73,7 @@ module _ {S C : Type 0} (m : MachineSpec S C) where
   plain_by : (o : Option (Message C)) (message : Message C) → IfSome o (λ x. IsPlain x.body) → o ≡ Some message → IsPlain message.body
   plain_by o message plain is = subst (λ (z : Option (Message C)). IfSome z (λ x. IsPlain x.body)) is plain
 
-  arrives_by : (old new : RaftView S C) (before after : List Frame) (from to : Actor) (body : WireBody S C) (message : Message C) → IsCompacted old.base old.server → from ≡ ServerActor message.from → to ≡ ServerActor message.to → Says m message.from message.to body message → MovesMessage m old (record { from = from; to = to; body = body }) new before after → (s : Raft C) → Refines m old s → Steps m old s (Arrives message) new before after
+  arrives_by : (old new : RaftView S C) (before after : List Frame) (from to : Actor) (body : WireBody S C) (message : Message C) → IsCompacted old.base old.server → from ≡ ServerActor message.from → to ≡ ServerActor message.to → Says m message.from message.to body message → MovesMessage m old (record { from = from; to = to; body = body }) new before after → (s : Raft C) → RefinesRaft m old s → Steps m old s (Arrives message) new before after
   arrives_by old new before after from to (bodies.Install i) message shown f t said moves s r =
       let sees : Message C = record { from = message.from; to = message.to; term = i.head.term; body = InstallBody (noop_prefix m i.head.index i.head.index_term) } in
       subst (λ (x : Message C). Steps m old s (Arrives x) new before after) (sym said.2)
@@ -81,21 +81,21 @@ module _ {S C : Type 0} (m : MachineSpec S C) where
   arrives_by old new before after from to body message shown f t said moves s r =
       fills old new before after (Arrives message) shown (plain_by _ message tt said) (moves message (record { from = f; to = t; said = said })) s r
 
-  arrives : (old new : RaftView S C) (before after : List Frame) (read : WireMessage S C) (message : Message C) → IsCompacted old.base old.server → Means m read message → MovesMessage m old read new before after → (s : Raft C) → Refines m old s → Steps m old s (Arrives message) new before after
+  arrives : (old new : RaftView S C) (before after : List Frame) (read : WireMessage S C) (message : Message C) → IsCompacted old.base old.server → Means m read message → MovesMessage m old read new before after → (s : Raft C) → RefinesRaft m old s → Steps m old s (Arrives message) new before after
   arrives old new before after read message shown means moves s r =
       arrives_by old new before after read.from read.to read.body message shown means.from means.to means.said (λ x shows. moves x (record { from = shows.from; to = shows.to; said = shows.said })) s r
 
-  beat_fills : (old new : RaftView S C) (before after : List Frame) → (new ≡ old) × Beats m old before after → (s : Raft C) → Refines m old s → Steps m old s Beat new before after
+  beat_fills : (old new : RaftView S C) (before after : List Frame) → (new ≡ old) × Beats m old before after → (s : Raft C) → RefinesRaft m old s → Steps m old s Beat new before after
   beat_fills old new before after moves s r =
       let up : is_up s.mode ≡ true = ap (λ (x : Raft C). is_up x.mode) r.is ∙ moves.1.up in
       record {
         turn = record { server = s; sent = beats old.size old.me s s.mode };
         step = rw up refl;
-        refines = subst (λ (v : RaftView S C). Refines m v s) (sym moves.0) r;
+        refines = subst (λ (v : RaftView S C). RefinesRaft m v s) (sym moves.0) r;
         sent = subst (λ (x : Raft C). Sends m before after (beats old.size old.me x x.mode)) (sym r.is) (moves.1.sent r.covered r.fits);
       }
 
-  compact_fills : (old new : RaftView S C) (before after : List Frame) → IsCompacted old.base old.server → (after ≡ before) × Compacts m old new → (s : Raft C) → Refines m old s → Steps m old s Compact new before after
+  compact_fills : (old new : RaftView S C) (before after : List Frame) → IsCompacted old.base old.server → (after ≡ before) × Compacts m old new → (s : Raft C) → RefinesRaft m old s → Steps m old s Compact new before after
   compact_fills old new before after shown moves s r =
       let up : is_up s.mode ≡ true = ap (λ (x : Raft C). is_up x.mode) r.is ∙ moves.1.up in
       let stands = (compact_stands m old.base old.server s shown moves.1.within r).0 in
@@ -106,7 +106,7 @@ module _ {S C : Type 0} (m : MachineSpec S C) where
         sent = subst (λ (l : List Frame). Sends m before l []) (sym moves.0) (sends-none m before);
       }
 
-  pub takes_by : (input : CodeInput) (old new : RaftView S C) (before after : List Frame) → IsCompacted old.base old.server → MovesBy m old (handed input) new before after → (s : Raft C) → Refines m old s → Takes m old s (handed input) new before after
+  pub takes_by : (input : CodeInput) (old new : RaftView S C) (before after : List Frame) → IsCompacted old.base old.server → MovesBy m old (handed input) new before after → (s : Raft C) → RefinesRaft m old s → Takes m old s (handed input) new before after
   takes_by (inputs.Frame bytes) old new before after shown moves s r = λ input reads.
       let frame = reads.1 in
       subst (λ (i : Input C). Steps m old s i new before after) (sym reads.2)
@@ -122,7 +122,7 @@ module _ {S C : Type 0} (m : MachineSpec S C) where
   takes_by inputs.Restart old new before after shown moves s r = λ input reads.
       subst (λ (i : Input C). Steps m old s i new before after) (sym reads) (fills old new before after Restart shown tt moves s r)
 
-  pub takes_message : (old new : RaftView S C) (before after : List Frame) (read : WireMessage S C) → IsCompacted old.base old.server → MovesMessage m old read new before after → (s : Raft C) → Refines m old s → TakesMessage m old s read new before after
+  pub takes_message : (old new : RaftView S C) (before after : List Frame) (read : WireMessage S C) → IsCompacted old.base old.server → MovesMessage m old read new before after → (s : Raft C) → RefinesRaft m old s → TakesMessage m old s read new before after
   takes_message old new before after read shown moves s r = λ message means.
       arrives old new before after read message shown means moves s r
 
@@ -170,7 +170,7 @@ module _ {S C : Type 0} (m : MachineSpec S C) where
     hides_shown input cause hides = tt
 
   -- a refusal that is not want of memory
-  pub other_refused : (input : CodeInput) (cause : Refusal) (old new : RaftView S C) (before after : List Frame) → (cause ≡ refusals.NoMemory → ⊥) → IsCompacted old.base old.server → EndsRefused m old (handed input) cause new before after → (s : Raft C) → Refines m old s → IsRefused m old.size old.me s (handed input) cause
+  pub other_refused : (input : CodeInput) (cause : Refusal) (old new : RaftView S C) (before after : List Frame) → (cause ≡ refusals.NoMemory → ⊥) → IsCompacted old.base old.server → EndsRefused m old (handed input) cause new before after → (s : Raft C) → RefinesRaft m old s → IsRefused m old.size old.me s (handed input) cause
   other_refused input refusals.NoMemory old new before after other shown ends s r = absurd (other refl)
   other_refused input cause old new before after other shown ends s r = refusal_shown old.size old.me old.base old.server s shown r input ∙ ends.0
 
@@ -191,7 +191,7 @@ module _ {S C : Type 0} (m : MachineSpec S C) where
   other_stays h cause old new other same = same
 
   -- a crash, by what is shown
-  pub crash_fills : (old new : RaftView S C) → IsCrashOf old new → (s : Raft C) → Refines m old s → Refines m new (crashed s)
+  pub crash_fills : (old new : RaftView S C) → IsCrashOf old new → (s : Raft C) → RefinesRaft m old s → RefinesRaft m new (crashed s)
   crash_fills old new crash s r = record {
     covered = r.covered;
     fits = rw crash.1 r.fits;
@@ -199,7 +199,7 @@ module _ {S C : Type 0} (m : MachineSpec S C) where
   }
 
   -- the same server, by what is shown
-  pub same_fills : (old new : RaftView S C) → SameRaft old new → (s : Raft C) → Refines m old s → Refines m new s
+  pub same_fills : (old new : RaftView S C) → SameRaft old new → (s : Raft C) → RefinesRaft m old s → RefinesRaft m new s
   same_fills old new same s r = record {
     covered = r.covered;
     fits = rw same.base r.fits;
@@ -208,11 +208,11 @@ module _ {S C : Type 0} (m : MachineSpec S C) where
 
   -- ---- machines
 
-  pub machine_each : (view : RaftView S C) → IsCompacted view.base view.server → (o : Option (Bor S)) → MatchOption o (is_up view.server.mode ≡ false) (λ r. (is_up view.server.mode ≡ true) × (r.now ≡ compacted_state m view.base view.server)) → (s : Raft C) → Refines m view s → MatchOption o (is_up s.mode ≡ false) (λ r. (is_up s.mode ≡ true) × (r.now ≡ state_after m (take s.commit s.log)))
+  pub machine_each : (view : RaftView S C) → IsCompacted view.base view.server → (o : Option (Bor S)) → MatchOption o (is_up view.server.mode ≡ false) (λ r. (is_up view.server.mode ≡ true) × (r.now ≡ compacted_state m view.base view.server)) → (s : Raft C) → RefinesRaft m view s → MatchOption o (is_up s.mode ≡ false) (λ r. (is_up s.mode ≡ true) × (r.now ≡ state_after m (take s.commit s.log)))
   machine_each view shown None off s r = ap (λ (x : Raft C). is_up x.mode) r.is ∙ off
   machine_each view shown (Some it) on s r = (ap (λ (x : Raft C). is_up x.mode) r.is ∙ on.0, on.1 ∙ sym (state_shown m view.base view.server s shown r))
 
-  pub whole_each : (old mid : RaftView S C) (it : Bor S) → SameRaft old mid → is_leader old.server.mode ≡ true → it.now ≡ state_from m mid.base mid.server.log → (s : Raft C) → Refines m old s → (is_leader s.mode ≡ true) × (it.now ≡ state_after m s.log)
+  pub whole_each : (old mid : RaftView S C) (it : Bor S) → SameRaft old mid → is_leader old.server.mode ≡ true → it.now ≡ state_from m mid.base mid.server.log → (s : Raft C) → RefinesRaft m old s → (is_leader s.mode ≡ true) × (it.now ≡ state_after m s.log)
   whole_each old mid it same leads is s r = (
     ap (λ (x : Raft C). is_leader x.mode) r.is ∙ leads,
     is ∙ ap (λ (b : Base S). state_from m b mid.server.log) same.base ∙ ap (λ (x : Raft C). state_from m old.base x.log) same.server ∙ sym (whole_shown m old.base old.server s r),
@@ -220,6 +220,6 @@ module _ {S C : Type 0} (m : MachineSpec S C) where
 
   -- ---- watchers
 
-  pub seen_each : {W : Type 0} (Sees : W → ℕ → Entry C → S → W → Type 0) (old new : RaftView S C) → IsCompacted old.base old.server → IsCompacted new.base new.server → (is_leader new.server.mode ≡ true → new.base.index ≤ old.server.commit) → (w v : W) → ShowsStep m Sees old.base old.server new.server w v → (s next : Raft C) → Refines m old s → Refines m new next → SeesStep m Sees s next w v
+  pub seen_each : {W : Type 0} (Sees : W → ℕ → Entry C → S → W → Type 0) (old new : RaftView S C) → IsCompacted old.base old.server → IsCompacted new.base new.server → (is_leader new.server.mode ≡ true → new.base.index ≤ old.server.commit) → (w v : W) → ShowsStep m Sees old.base old.server new.server w v → (s next : Raft C) → RefinesRaft m old s → RefinesRaft m new next → SeesStep m Sees s next w v
   seen_each Sees old new shown after led w v shows s next r q =
       sees_filled m Sees old.base new.base old.server new.server shown after led s next r q w v shows

@@ -16,11 +16,11 @@ use Rattle.raft_snapshot.proofs.Shown.{may_fill, whole_shown}
 use Rattle.raft_core.specs.Inputs.{Own}
 use Rattle.raft_core.specs.RaftView.{RaftView}
 use Rattle.raft_core.specs.Refusals.{refusal_by, HidesNothing, IsRefused}
-use Rattle.raft_core.specs.Steps.{Refines, Steps, Takes}
+use Rattle.raft_core.specs.Steps.{RefinesRaft, Steps, Takes}
 use Rattle.raft_core.specs.Inner.Proposals.{shown_refusal, IsShownRefused}
 use Rattle.raft_core.proofs.Sends.{sends-none}
 
-module _ {S C : Type 0} (m : MachineSpec S C) (view : RaftView S C) (shown : IsCompacted view.base view.server) (command : C) (s : Raft C) (r : Refines m view s) where
+module _ {S C : Type 0} (m : MachineSpec S C) (view : RaftView S C) (shown : IsCompacted view.base view.server) (command : C) (s : Raft C) (r : RefinesRaft m view s) where
   length_is : length s.log ≡ length view.server.log
   length_is =
       let may = may_fill m view.base view.server shown r.covered r.fits in
@@ -90,11 +90,11 @@ module _ {S C : Type 0} (m : MachineSpec S C) (view : RaftView S C) (shown : IsC
 
 -- so of each of them
 module _ {S C : Type 0} (m : MachineSpec S C) (view : RaftView S C) (shown : IsCompacted view.base view.server) (command : C) where
-  pub refused_each : (cause : Refusal) → IsShownRefused m view command cause → (s : Raft C) → Refines m view s → IsRefused m view.size view.me s (Own (Propose command)) cause
+  pub refused_each : (cause : Refusal) → IsShownRefused m view command cause → (s : Raft C) → RefinesRaft m view s → IsRefused m view.size view.me s (Own (Propose command)) cause
   refused_each cause is s r = refused_as m view shown command s r view.size view.me cause is
 
-  pub hides_each : (cause : Refusal) → IsShownRefused m view command cause → (s : Raft C) → Refines m view s → HidesNothing m view.size view.me s (Own (Propose command)) cause
+  pub hides_each : (cause : Refusal) → IsShownRefused m view command cause → (s : Raft C) → RefinesRaft m view s → HidesNothing m view.size view.me s (Own (Propose command)) cause
   hides_each cause is s r = hides_as m view shown command s r view.size view.me cause is
 
-  pub proposed_each : (new : RaftView S C) → shown_refusal m view command ≡ None → new.base ≡ view.base → new.server ≡ extended view.server command → (s : Raft C) (sent : List Frame) → Refines m view s → Takes m view s (Own (Propose command)) new sent sent
+  pub proposed_each : (new : RaftView S C) → shown_refusal m view command ≡ None → new.base ≡ view.base → new.server ≡ extended view.server command → (s : Raft C) (sent : List Frame) → RefinesRaft m view s → Takes m view s (Own (Propose command)) new sent sent
   proposed_each new none base server s sent r = proposed m view shown command s r new none base server sent

@@ -10,12 +10,12 @@ use Rattle.raft_snapshot.specs.Compacted.{IsCompacted, IsCompactionOf}
 use Rattle.raft_snapshot.proofs.Logs.{with_prefix-length, with_prefix-term, with_prefix-grown}
 use Rattle.raft_snapshot.proofs.Shown.{may_fill}
 use Rattle.raft_core.specs.RaftView.{RaftView}
-use Rattle.raft_core.specs.Steps.{Refines}
+use Rattle.raft_core.specs.Steps.{RefinesRaft}
 use Rattle.raft_core.specs.Tickets.{IsTicket, HasTermAt, HasNoTermAt}
 
 module _ {S C : Type 0} (m : MachineSpec S C) (view : RaftView S C) (shown : IsCompacted view.base view.server) where
   -- the log of a server that it stands for
-  module _ (s : Raft C) (r : Refines m view s) where
+  module _ (s : Raft C) (r : RefinesRaft m view s) where
     log_is : s.log ≡ log_with_prefix r.covered view.server.log
     log_is = ap (λ (x : Raft C). x.log) r.is
 
@@ -46,7 +46,7 @@ module _ {S C : Type 0} (m : MachineSpec S C) (view : RaftView S C) (shown : IsC
 
   -- the term at an index, or that there is none, is the same for each of them
   pub term_each : (index : ℕ) (o : Option ℕ) → MatchOption o (HasNoTermAt view.server index) (HasTermAt view.server index) →
-      (s : Raft C) → Refines m view s → MatchOption o (HasNoTermAt s index) (HasTermAt s index)
+      (s : Raft C) → RefinesRaft m view s → MatchOption o (HasNoTermAt s index) (HasTermAt s index)
   term_each index o known s r = known_of s r index o known
 
   -- a command that was appended is the last entry of each of them

@@ -14,7 +14,7 @@ use Rattle.raft_core.specs.declared.not_projected.NotProjected.{NotProjected}
 use Rattle.raft_core.specs.declared.not_projected.NotProjected.TheVariants as reasons
 use Rattle.raft_core.specs.RaftView.{RaftView, IsCrashOf}
 use Rattle.raft_core.specs.Inputs.{Handed, Bytes, Own}
-use Rattle.raft_core.specs.Steps.{Refines, IsGroupMember}
+use Rattle.raft_core.specs.Steps.{RefinesRaft, IsGroupMember}
 
 -- ---- what is handed in
 
@@ -117,7 +117,7 @@ IsMessageRefused n me s read cause = message_refusal n me s read ≡ Some cause
 -- want of memory in a step is a crash, but that a restart changes nothing
 abbrev pub OutOfMemoryLeaves : {S C : Type 0} → MachineSpec S C → RaftView S C → Raft C → Handed C → RaftView S C → Type 0
 OutOfMemoryLeaves m old s (Own Restart) new = new ≡ old
-OutOfMemoryLeaves m old s h new = Refines m new (crashed s)
+OutOfMemoryLeaves m old s h new = RefinesRaft m new (crashed s)
 
 -- any other refusal of a step changes nothing
 abbrev pub RefusalLeaves : {S C : Type 0} → MachineSpec S C → RaftView S C → Raft C → Handed C → Refusal → RaftView S C
@@ -128,7 +128,7 @@ RefusalLeaves m old s h cause new = new ≡ old
 -- the same of a message that was read
 abbrev pub MessageRefusalLeaves : {S C : Type 0} → MachineSpec S C → RaftView S C → Raft C → Refusal
     → RaftView S C → Type 0
-MessageRefusalLeaves m old s refusals.NoMemory new = Refines m new (crashed s)
+MessageRefusalLeaves m old s refusals.NoMemory new = RefinesRaft m new (crashed s)
 MessageRefusalLeaves m old s cause new = new ≡ old
 
 -- The same of the value itself, whichever servers it is: want of memory in a step is a crash, but

@@ -19,8 +19,8 @@ use Rattle.raft_core.specs.Inputs.{Handed, Reads}
 
 -- Which servers of the definitions a value is: each that has, in place of the blank entries, some
 -- that its snapshot covers.
-abbrev pub Refines : {S C : Type 0} → MachineSpec S C → RaftView S C → Raft C → Type 0
-Refines m view s = IsCompactionOf m view.base view.server s
+abbrev pub RefinesRaft : {S C : Type 0} → MachineSpec S C → RaftView S C → Raft C → Type 0
+RefinesRaft m view s = IsCompactionOf m view.base view.server s
 
 -- what is stored is what this server stores
 pub record Stores {S C : Type 0} (m : MachineSpec S C) (stored : Stored S C) (s : Raft C) : Type 0 where
@@ -44,7 +44,7 @@ pub record Steps {S C : Type 0} (m : MachineSpec S C) (old : RaftView S C) (s : 
     (new : RaftView S C) (before after : List Frame) : Type 0 where
   pub turn : RaftTurn C
   pub step : step m old.size old.me s input ≡ Ok turn
-  pub refines : Refines m new turn.server
+  pub refines : RefinesRaft m new turn.server
   pub sent : Sends m before after turn.sent
 
 -- so for each input that what is handed in may be

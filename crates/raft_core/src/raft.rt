@@ -11,7 +11,7 @@ ghost use Rattle.std.specs.Prelude.{◌≡◌, ◌≤◌, true, false, is_some, 
 ghost use Rattle.raft_model.specs.Logs.{last_term, state_after};
 ghost use Rattle.raft_model.specs.Rafts.{Raft as AnyRaft, is_up, is_leader, term_observed, crashed, restarted};
 ghost use Rattle.raft_core.specs.Inputs.{handed};
-ghost use Rattle.raft_core.specs.Steps.{Refines, Stores, Takes, role_of, IsGroupMember};
+ghost use Rattle.raft_core.specs.Steps.{RefinesRaft, Stores, Takes, role_of, IsGroupMember};
 ghost use Rattle.raft_core.specs.Refusals.{refusal, HidesNothing, IsRefused, RefusalLeaves, RefusalShows, Stays, WhyNot};
 ghost use Rattle.raft_core.specs.Inner.Stops.{EndsRefused};
 ghost use Rattle.raft_core.specs.Inner.Views.{with_server};
@@ -118,7 +118,7 @@ impl<M: Machine> Raft<M> {
         ensures number { IfOk result (λ r. (r.me ≡ me) × (r.size ≡ size)) }
         ensures shown { IfOk result (λ r. stored_part r ≡ stable) }
         ensures server { IfOk result (λ r. (s : AnyRaft M.Command) → Stores M.spec stable s →
-            Refines M.spec r (restarted s)) }
+            RefinesRaft M.spec r (restarted s)) }
         ensures refused { IfErr result (λ e. (e.stable ≡ stable) × WhyNot size me e.refusal) }
     {
         if !is_member(size, me) {
@@ -166,7 +166,7 @@ impl<M: Machine> Raft<M> {
 
     /// What it stores; the rest is gone.
     pub fn into_stable(self) -> Stable<M>
-        ensures stored { (s : AnyRaft M.Command) → Refines M.spec self s →
+        ensures stored { (s : AnyRaft M.Command) → RefinesRaft M.spec self s →
             Stores M.spec result s }
         ensures shown { result ≡ stored_part self }
     {
@@ -196,7 +196,7 @@ impl<M: Machine> Raft<M> {
 
     /// What it is doing, while it is up.
     pub fn role(&self) -> Option<Role>
-        ensures value { (s : AnyRaft M.Command) → Refines M.spec self.now s →
+        ensures value { (s : AnyRaft M.Command) → RefinesRaft M.spec self.now s →
             result ≡ role_of s.mode }
         ensures shown { result ≡ role_of self.now.server.mode }
     {
@@ -210,7 +210,7 @@ impl<M: Machine> Raft<M> {
     /// down. A server that leads or stands for election knows none, and a greater term or a restart
     /// makes it forget.
     pub fn known_leader(&self) -> Option<ServerId>
-        ensures value { (s : AnyRaft M.Command) → Refines M.spec self.now s →
+        ensures value { (s : AnyRaft M.Command) → RefinesRaft M.spec self.now s →
             result ≡ s.known }
         ensures shown { result ≡ self.now.server.known }
     {
@@ -222,7 +222,7 @@ impl<M: Machine> Raft<M> {
 
     /// Its current term, also while it is down.
     pub fn term(&self) -> Term
-        ensures value { (s : AnyRaft M.Command) → Refines M.spec self.now s →
+        ensures value { (s : AnyRaft M.Command) → RefinesRaft M.spec self.now s →
             result ≡ s.term }
         ensures shown { result ≡ self.now.server.term }
     {
@@ -246,7 +246,7 @@ impl<M: Machine> Raft<M> {
 
     /// The index of the last entry of its log, also while it is down; 0 where there is none.
     pub fn last(&self) -> Index
-        ensures value { (s : AnyRaft M.Command) → Refines M.spec self.now s →
+        ensures value { (s : AnyRaft M.Command) → RefinesRaft M.spec self.now s →
             result ≡ length s.log }
         ensures shown { result ≡ length self.now.server.log }
     {
@@ -256,7 +256,7 @@ impl<M: Machine> Raft<M> {
     /// The term of the last entry of its log, also while it is down and where its snapshot covers
     /// that entry; 0 where there is none.
     pub fn last_term(&self) -> Term
-        ensures value { (s : AnyRaft M.Command) → Refines M.spec self.now s →
+        ensures value { (s : AnyRaft M.Command) → RefinesRaft M.spec self.now s →
             result ≡ last_term s.log }
         ensures shown { result ≡ last_term self.now.server.log }
     {
@@ -266,7 +266,7 @@ impl<M: Machine> Raft<M> {
     /// The term of the entry at an index, also while it is down; none where its snapshot covers that
     /// entry, and where there is none.
     pub fn term_at(&self, index: Index) -> Option<Term>
-        ensures value { (s : AnyRaft M.Command) → Refines M.spec self.now s →
+        ensures value { (s : AnyRaft M.Command) → RefinesRaft M.spec self.now s →
             MatchOption result (HasNoTermAt s index) (λ t. HasTermAt s index t) }
         ensures shown { let s = self.now.server in
             MatchOption result (HasNoTermAt s index) (λ t. HasTermAt s index t) }
@@ -288,7 +288,7 @@ impl<M: Machine> Raft<M> {
 
     /// What it knows of a command by its ticket, while it is up.
     pub fn proposal_status(&self, ticket: Ticket) -> Option<ProposalStatus>
-        ensures value { (s : AnyRaft M.Command) → Refines M.spec self.now s →
+        ensures value { (s : AnyRaft M.Command) → RefinesRaft M.spec self.now s →
             result ≡ proposal_status_of s ticket.index ticket.term }
     {
         let applied = self.applied()?;
@@ -304,10 +304,10 @@ impl<M: Machine> Raft<M> {
 
     /// How many entries are applied, while it is up: all that are committed.
     pub fn applied(&self) -> Option<Index>
-        ensures value { (s : AnyRaft M.Command) → Refines M.spec self.now s →
+        ensures value { (s : AnyRaft M.Command) → RefinesRaft M.spec self.now s →
             MatchOption result (is_up s.mode ≡ false) (λ n. (is_up s.mode ≡ true)
             × (n ≡ s.commit)) }
-        ensures held { (s : AnyRaft M.Command) → Refines M.spec self.now s →
+        ensures held { (s : AnyRaft M.Command) → RefinesRaft M.spec self.now s →
             IfSome result (λ n. n ≤ length s.log) }
         ensures shown { let s = self.now.server in
             MatchOption result (is_up s.mode ≡ false) (λ n. (is_up s.mode ≡ true)
@@ -321,7 +321,7 @@ impl<M: Machine> Raft<M> {
 
     /// The machine after the committed entries, while it is up.
     pub fn machine(&self) -> Option<&M>
-        ensures value { (s : AnyRaft M.Command) → Refines M.spec self.now s →
+        ensures value { (s : AnyRaft M.Command) → RefinesRaft M.spec self.now s →
             MatchOption result (is_up s.mode ≡ false) (λ r. (is_up s.mode ≡ true)
             × (r.now ≡ state_after M.spec (take s.commit s.log))) }
         ensures shown { is_some result ≡ is_up self.now.server.mode }
@@ -342,7 +342,7 @@ impl<M: Machine> Raft<M> {
 
     /// Whether it is up: it has not crashed since it last started.
     pub fn is_up(&self) -> bool
-        ensures value { (s : AnyRaft M.Command) → Refines M.spec self.now s →
+        ensures value { (s : AnyRaft M.Command) → RefinesRaft M.spec self.now s →
             result ≡ is_up s.mode }
         ensures shown { result ≡ is_up self.now.server.mode }
     {
@@ -354,7 +354,7 @@ impl<M: Machine> Raft<M> {
 
     /// Its term while it leads.
     pub fn leader_term(&self) -> Option<LeaderTerm>
-        ensures value { (s : AnyRaft M.Command) → Refines M.spec self.now s →
+        ensures value { (s : AnyRaft M.Command) → RefinesRaft M.spec self.now s →
             MatchOption result (is_leader s.mode ≡ false) (λ n. (is_leader s.mode ≡ true)
             × (n ≡ s.term)) }
         ensures shown { let s = self.now.server in
@@ -380,8 +380,8 @@ impl<M: Machine> Raft<M> {
     /// It stops: what it does not store is lost. One that is down stays so. It takes no memory.
     pub fn crash(&mut self)
         ensures same { SameNumber self.old self.new }
-        ensures crashed { (s : AnyRaft M.Command) → Refines M.spec self.old s →
-            Refines M.spec self.new (crashed s) }
+        ensures crashed { (s : AnyRaft M.Command) → RefinesRaft M.spec self.old s →
+            RefinesRaft M.spec self.new (crashed s) }
         ensures shown { IsCrashOf self.old self.new }
     {
         self.go_down();
@@ -526,20 +526,20 @@ impl<M: Machine> Raft<M> {
     /// log.
     pub fn step(&mut self, input: Input, outbox: &mut Frames) -> Result<(), Refusal>
         ensures same { SameNumber self.old self.new }
-        ensures taken { OnOk result ((s : AnyRaft M.Command) → Refines M.spec self.old s →
+        ensures taken { OnOk result ((s : AnyRaft M.Command) → RefinesRaft M.spec self.old s →
             Takes M.spec self.old s (handed input.entry) self.new outbox.old outbox.new) }
-        ensures admitted { OnOk result ((s : AnyRaft M.Command) → Refines M.spec self.old s →
+        ensures admitted { OnOk result ((s : AnyRaft M.Command) → RefinesRaft M.spec self.old s →
             refusal M.spec self.old.size self.old.me s (handed input.entry) ≡ None) }
         ensures kept { OnOk result (KeepsProjected self.old self.new) }
         ensures keeps { OnOk result (MayKeepLog (handed input.entry) self.old self.new) }
         ensures refused { IfErr result (λ cause. (s : AnyRaft M.Command) →
-            Refines M.spec self.old s →
+            RefinesRaft M.spec self.old s →
             IsRefused M.spec self.old.size self.old.me s (handed input.entry) cause) }
         ensures unhidden { IfErr result (λ cause. (s : AnyRaft M.Command) →
-            Refines M.spec self.old s →
+            RefinesRaft M.spec self.old s →
             HidesNothing M.spec self.old.size self.old.me s (handed input.entry) cause) }
         ensures left { IfErr result (λ cause. (s : AnyRaft M.Command) →
-            Refines M.spec self.old s →
+            RefinesRaft M.spec self.old s →
             RefusalLeaves M.spec self.old s (handed input.entry) cause self.new) }
         ensures stays { IfErr result (λ cause.
             Stays (handed input.entry) cause self.old self.new) }
@@ -559,26 +559,26 @@ impl<M: Machine> Raft<M> {
         watch: &mut W,
     ) -> Result<(), Refusal>
         ensures same { SameNumber self.old self.new }
-        ensures taken { OnOk result ((s : AnyRaft M.Command) → Refines M.spec self.old s →
+        ensures taken { OnOk result ((s : AnyRaft M.Command) → RefinesRaft M.spec self.old s →
             Takes M.spec self.old s (handed input.entry) self.new outbox.old outbox.new) }
-        ensures admitted { OnOk result ((s : AnyRaft M.Command) → Refines M.spec self.old s →
+        ensures admitted { OnOk result ((s : AnyRaft M.Command) → RefinesRaft M.spec self.old s →
             refusal M.spec self.old.size self.old.me s (handed input.entry) ≡ None) }
         ensures kept { OnOk result (KeepsProjected self.old self.new) }
         ensures keeps { OnOk result (MayKeepLog (handed input.entry) self.old self.new) }
         ensures refused { IfErr result (λ cause. (s : AnyRaft M.Command) →
-            Refines M.spec self.old s →
+            RefinesRaft M.spec self.old s →
             IsRefused M.spec self.old.size self.old.me s (handed input.entry) cause) }
         ensures unhidden { IfErr result (λ cause. (s : AnyRaft M.Command) →
-            Refines M.spec self.old s →
+            RefinesRaft M.spec self.old s →
             HidesNothing M.spec self.old.size self.old.me s (handed input.entry) cause) }
         ensures left { IfErr result (λ cause. (s : AnyRaft M.Command) →
-            Refines M.spec self.old s →
+            RefinesRaft M.spec self.old s →
             RefusalLeaves M.spec self.old s (handed input.entry) cause self.new) }
         ensures stays { IfErr result (λ cause.
             Stays (handed input.entry) cause self.old self.new) }
         ensures unsent { OnErr result (outbox.new ≡ outbox.old) }
         ensures seen { OnOk result ((s next : AnyRaft M.Command) →
-            Refines M.spec self.old s → Refines M.spec self.new next →
+            RefinesRaft M.spec self.old s → RefinesRaft M.spec self.new next →
             SeesStep M.spec W.sees s next watch.old watch.new) }
         ensures unseen { IfErr result (λ cause. RefusalShows cause watch.old watch.new) }
     {

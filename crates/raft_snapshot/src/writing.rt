@@ -43,7 +43,7 @@ fn append_covered(index: Index, term: Term, out: &mut Vec<u8>) -> Result<(), NoM
 
 /// Puts the entries behind those that are covered to the end, behind their count.
 #[tactic(auto, using(crate::proofs::TextRules::appends))]
-fn append_entries<M: Machine>(
+fn write_entries<M: Machine>(
     index: Index,
     behind: &[Entry<Coded<M>>],
     out: &mut Vec<u8>,
@@ -78,7 +78,7 @@ fn append_change<M: Machine>(
     write_term(&term, out)?;
     append_vote(voted, out)?;
     append_covered(keep, kept_term, out)?;
-    append_entries(keep, log.behind(keep.get()), out)
+    write_entries(keep, log.behind(keep.get()), out)
 }
 
 /// Puts to the end what led to this term, vote and log, where so many first entries were the same

@@ -11,7 +11,7 @@ use Rattle.raft_model.specs.Worlds as raft_worlds
 use Rattle.raft_model.specs.Worlds.{World, Event, Deliver, TimesOut, Beats, Crashes, happens, delivers}
 use Rattle.raft_core.specs.Frames.{FrameCarries}
 use Rattle.raft_core.specs.RaftView.{RaftView}
-use Rattle.raft_core.specs.Steps.{Refines}
+use Rattle.raft_core.specs.Steps.{RefinesRaft}
 use Rattle.raft_safety.proofs.Places.{get-within}
 use Rattle.group_inputs.specs.Events.{position_of}
 use Rattle.world.specs.WorldView.{WorldView, RunsTo}
@@ -54,10 +54,10 @@ module _ {S C : Type 0} (m : MachineSpec S C) where
   sent_length view count is past w r = let st = r.refines in is ∙ zip_length (FrameCarries m) view.sent w.sent st.sent
 
   pub is_there : (view : WorldView S C) (k : ℕ) (h : RaftView S C) → slice_get view.servers k ≡ Some h → StandsThere (log_drive m) m k h view
-  is_there view k h here past w r = let st = r.refines in zip_at (Refines m) view.servers w.servers k h st.servers here
+  is_there view k h here past w r = let st = r.refines in zip_at (RefinesRaft m) view.servers w.servers k h st.servers here
 
   pub is_not_there : (view : WorldView S C) (k : ℕ) → slice_get view.servers k ≡ None → NoneThere (log_drive m) k view
-  is_not_there view k none past w r = let st = r.refines in zip_none (Refines m) view.servers w.servers k st.servers none
+  is_not_there view k none past w r = let st = r.refines in zip_none (RefinesRaft m) view.servers w.servers k st.servers none
 
   -- a look-up of a server
   pub some_there : (view : WorldView S C) (k : ℕ) (r : Option (Bor (RaftView S C))) → option_copied r ≡ slice_get view.servers k → IfSome r (λ x. StandsThere (log_drive m) m k x.now view)

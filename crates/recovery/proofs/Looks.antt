@@ -9,7 +9,7 @@ use Rattle.raft_model.specs.Rafts.{Raft, is_up, is_leader}
 use Rattle.raft_model.specs.Worlds.{World}
 use Rattle.raft_model.proofs.Cases.{bool_cases}
 use Rattle.raft_core.specs.RaftView.{RaftView}
-use Rattle.raft_core.specs.Steps.{Refines}
+use Rattle.raft_core.specs.Steps.{RefinesRaft}
 use Rattle.raft_safety.proofs.Places.{get-some, get-within}
 use Rattle.raft_progress.proofs.Moves.{reached_size}
 use Rattle.recovery.specs.Runs.{up_there, is_up_in}
@@ -30,23 +30,23 @@ pub record HighestBelow {C : Type 0} (n top k : ℕ) (w : World C) : Type 0 wher
 
 module _ {V S C : Type 0} (m : MachineSpec S C) (d : Drive V S C) (view : V) where
   -- a server that is there
-  pub read : (k : ℕ) (h : RaftView S C) (P : Raft C → Type 0) → StandsThere d m k h view → ((s : Raft C) → Refines m h s → P s) → Ever d view (λ w. (s : Raft C) × (slice_get w.servers k ≡ Some s) × P s)
+  pub read : (k : ℕ) (h : RaftView S C) (P : Raft C → Type 0) → StandsThere d m k h view → ((s : Raft C) → RefinesRaft m h s → P s) → Ever d view (λ w. (s : Raft C) × (slice_get w.servers k ≡ Some s) × P s)
   read k h P here says past w r = let z = here past w r in (z.0, z.1, says z.0 z.2)
 
-  pub read_each : (k : ℕ) (h : RaftView S C) (P : Raft C → Type 0) → StandsThere d m k h view → ((s : Raft C) → Refines m h s → P s) → Ever d view (λ w. (s : Raft C) → slice_get w.servers k ≡ Some s → P s)
+  pub read_each : (k : ℕ) (h : RaftView S C) (P : Raft C → Type 0) → StandsThere d m k h view → ((s : Raft C) → RefinesRaft m h s → P s) → Ever d view (λ w. (s : Raft C) → slice_get w.servers k ≡ Some s → P s)
   read_each k h P here says past w r s at = let z = read k h P here says past w r in subst (λ q. P q) (same_Some z.0 s (sym z.1 ∙ at)) z.2
 
   -- and one that is not
   pub none_each : (k : ℕ) (P : Raft C → Type 0) → NoneThere d k view → Ever d view (λ w. (s : Raft C) → slice_get w.servers k ≡ Some s → P s)
   none_each k P none past w r s at = absurd (let q = sym (none past w r) ∙ at in cc)
 
-  pub up_read : (k : ℕ) (h : RaftView S C) (b : Bool) → StandsThere d m k h view → ((s : Raft C) → Refines m h s → b ≡ is_up s.mode) → Ever d view (λ w. b ≡ is_up_in w k)
+  pub up_read : (k : ℕ) (h : RaftView S C) (b : Bool) → StandsThere d m k h view → ((s : Raft C) → RefinesRaft m h s → b ≡ is_up s.mode) → Ever d view (λ w. b ≡ is_up_in w k)
   up_read k h b here says past w r = let z = read k h (λ s. b ≡ is_up s.mode) here says past w r in z.2 ∙ sym (ap (λ q. up_there q) z.1)
 
   pub up_none : (k : ℕ) → NoneThere d k view → Ever d view (λ w. false ≡ is_up_in w k)
   up_none k none past w r = sym (ap (λ q. up_there q) (none past w r))
 
-  pub leads_read : (k : ℕ) (h : RaftView S C) (b : Bool) → StandsThere d m k h view → ((s : Raft C) → Refines m h s → b ≡ is_leader s.mode) → Ever d view (λ w. b ≡ leads_in w k)
+  pub leads_read : (k : ℕ) (h : RaftView S C) (b : Bool) → StandsThere d m k h view → ((s : Raft C) → RefinesRaft m h s → b ≡ is_leader s.mode) → Ever d view (λ w. b ≡ leads_in w k)
   leads_read k h b here says past w r = let z = read k h (λ s. b ≡ is_leader s.mode) here says past w r in z.2 ∙ sym (ap (λ q. leader_there q) z.1)
 
   pub leads_none : (k : ℕ) → NoneThere d k view → Ever d view (λ w. false ≡ leads_in w k)
@@ -54,7 +54,7 @@ module _ {V S C : Type 0} (m : MachineSpec S C) (d : Drive V S C) (view : V) whe
 
   -- how much one that is up has applied
   module _ (k : ℕ) (h : RaftView S C) (here : StandsThere d m k h view) (last : ℕ) where
-    pub lacks_told : (a : ℕ) → ((s : Raft C) → Refines m h s → (is_up s.mode ≡ true) × (a ≡ s.commit)) →
+    pub lacks_told : (a : ℕ) → ((s : Raft C) → RefinesRaft m h s → (is_up s.mode ≡ true) × (a ≡ s.commit)) →
         MatchBool (nat_lt a last) (Ever d view (λ w. (s : Raft C) → slice_get w.servers k ≡ Some s → (is_up s.mode ≡ true) × (s.commit < last)))
         (Ever d view (λ w. (s : Raft C) → slice_get w.servers k ≡ Some s → is_up s.mode ≡ true → last ≤ s.commit))
     lacks_told a says = elim (bool_cases (nat_lt a last)) [
@@ -62,7 +62,7 @@ module _ {V S C : Type 0} (m : MachineSpec S C) (d : Drive V S C) (view : V) whe
       | inr b ↦ rw b (read_each k h (λ s. is_up s.mode ≡ true → last ≤ s.commit) here (λ s r up. let z = says s r in omega (arith, z.1, ltb-false a last b)))
     ]
 
-    pub lacks_down : ((s : Raft C) → Refines m h s → is_up s.mode ≡ false) → Ever d view (λ w. (s : Raft C) → slice_get w.servers k ≡ Some s → is_up s.mode ≡ true → last ≤ s.commit)
+    pub lacks_down : ((s : Raft C) → RefinesRaft m h s → is_up s.mode ≡ false) → Ever d view (λ w. (s : Raft C) → slice_get w.servers k ≡ Some s → is_up s.mode ≡ true → last ≤ s.commit)
     lacks_down says = read_each k h (λ s. is_up s.mode ≡ true → last ≤ s.commit) here (λ s r up. absurd (true≢false (sym up ∙ says s r)))
 
   -- ---- messages

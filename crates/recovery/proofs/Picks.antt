@@ -13,7 +13,7 @@ use Rattle.raft_safety.proofs.QuietSteps.{or_either}
 use Rattle.raft_safety.proofs.Places.{get-within}
 use Rattle.raft_model.proofs.Cases.{bool_cases}
 use Rattle.raft_core.specs.RaftView.{RaftView}
-use Rattle.raft_core.specs.Steps.{Refines}
+use Rattle.raft_core.specs.Steps.{RefinesRaft}
 use Rattle.raft_progress.proofs.Choosing.{NoOlder, no_older, told, older_self, older_trans}
 use Rattle.raft_progress.proofs.Settling.{count_none}
 use Rattle.recovery.specs.Runs.{is_up_in}
@@ -116,14 +116,14 @@ BestBelow n None k w = (j : ℕ) → j < k → is_up_in w j ≡ false
 BestBelow n (Some b) k w = BestSoFar n b k w
 
 module _ {V S C : Type 0} (m : MachineSpec S C) (d : Drive V S C) (view : V) where
-  pub full_read : (k : ℕ) (h : RaftView S C) → StandsThere d m k h view → (b : Bool) → ((s : Raft C) → Refines m h s → MatchBool b ((is_up s.mode ≡ true) × (Roomy s → ⊥)) (Takes s)) →
+  pub full_read : (k : ℕ) (h : RaftView S C) → StandsThere d m k h view → (b : Bool) → ((s : Raft C) → RefinesRaft m h s → MatchBool b ((is_up s.mode ≡ true) × (Roomy s → ⊥)) (Takes s)) →
       MatchBool b (Ever d view (λ w. IsFull k w)) (Ever d view (λ w. HasPlace k w))
   full_read k h here true says = λ past w r. let z = read m d view k h (λ s. (is_up s.mode ≡ true) × (Roomy s → ⊥)) here says past w r in (z.0, z.1, z.2.0, z.2.1)
   full_read k h here false says = read_each m d view k h Takes here says
 
-  pub older_read : (j k : ℕ) (a b : RaftView S C) → StandsThere d m j a view → StandsThere d m k b view → (older : Bool) → ((s t : Raft C) → Refines m a s → Refines m b t → older ≡ is_older_log s.log t.log) → Ever d view (λ w. IsOlder j k older w)
+  pub older_read : (j k : ℕ) (a b : RaftView S C) → StandsThere d m j a view → StandsThere d m k b view → (older : Bool) → ((s t : Raft C) → RefinesRaft m a s → RefinesRaft m b t → older ≡ is_older_log s.log t.log) → Ever d view (λ w. IsOlder j k older w)
   older_read j k a b one two older says past w r s t at there2 =
-      says s t (read_each m d view j a (λ q. Refines m a q) one (λ q z. z) past w r s at) (read_each m d view k b (λ q. Refines m b q) two (λ q z. z) past w r t there2)
+      says s t (read_each m d view j a (λ q. RefinesRaft m a q) one (λ q z. z) past w r s at) (read_each m d view k b (λ q. RefinesRaft m b q) two (λ q z. z) past w r t there2)
 
   -- a next server whose log is as new is preferred if it leads all
   pub preferred_level : (j next : ℕ) (b : Bool) → Ever d view (λ w. IsOlder j next false w) → Ever d view (λ w. IsOlder next j false w) →

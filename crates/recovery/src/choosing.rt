@@ -3,7 +3,7 @@ ghost use Rattle.std.specs.Prelude.{◌≡◌, ◌+◌, ◌<◌, true, length, M
 ghost use Rattle.raft_model.specs.Quorums.{Quorum};
 ghost use Rattle.raft_model.specs.Rafts.{Raft as AnyRaft, is_up};
 ghost use Rattle.world.specs.Inner.Room.{RoomAbove};
-ghost use Rattle.raft_core.specs.Steps.{Refines};
+ghost use Rattle.raft_core.specs.Steps.{RefinesRaft};
 ghost use Rattle.recovery.specs.Runs.{is_up_in};
 ghost use Rattle.recovery.specs.Inner.Drives.{Ever, Known};
 ghost use Rattle.recovery.specs.Inner.Goings.{QuorumIsUp, QuorumLacks, RoomIsThere, RoomLacks, IsFull, HasPlace, is_older_log, IsOlder, IsServerOf, LeadsAll, IsPreferred, IsBetter, IsBest};
@@ -38,7 +38,7 @@ fn is_room_above(term: Term, last: Index) -> bool
 
 /// Whether a server has room for two more terms and two more entries.
 fn raft_has_room<M: Machine>(raft: &Raft<M>) -> bool
-    ensures { (s : AnyRaft M.Command) → Refines M.spec raft.now s →
+    ensures { (s : AnyRaft M.Command) → RefinesRaft M.spec raft.now s →
         MatchBool result (RoomAbove s.term (length s.log)) (RoomAbove s.term (length s.log) → ⊥) }
 {
     is_room_above(raft.term(), raft.last())
@@ -46,7 +46,7 @@ fn raft_has_room<M: Machine>(raft: &Raft<M>) -> bool
 
 /// Whether a server is up without such room.
 fn is_raft_full<M: Machine>(raft: &Raft<M>) -> bool
-    ensures { (s : AnyRaft M.Command) → Refines M.spec raft.now s →
+    ensures { (s : AnyRaft M.Command) → RefinesRaft M.spec raft.now s →
         MatchBool result ((is_up s.mode ≡ true) × (RoomAbove s.term (length s.log) → ⊥))
         (is_up s.mode ≡ true → RoomAbove s.term (length s.log)) }
 {
@@ -83,8 +83,8 @@ pub(crate) fn has_room<D: Driven>(world: &D) -> bool
 /// Whether a log is older than another: its last term is less, or the same and it is shorter.
 /// (Raft, section 5.4.1.)
 fn is_log_older<M: Machine>(one: &Raft<M>, other: &Raft<M>) -> bool
-    ensures { (s t : AnyRaft M.Command) → Refines M.spec one.now s →
-        Refines M.spec other.now t → result ≡ is_older_log s.log t.log }
+    ensures { (s t : AnyRaft M.Command) → RefinesRaft M.spec one.now s →
+        RefinesRaft M.spec other.now t → result ≡ is_older_log s.log t.log }
 {
     let (term, its_term) = (one.last_term().get(), other.last_term().get());
     term < its_term || (term == its_term && one.last() < other.last())

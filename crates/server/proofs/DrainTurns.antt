@@ -6,7 +6,7 @@ use Rattle.rows.specs.declared.refusal.Refusal.{Refusal}
 use Rattle.rows.specs.declared.refusal.Refusal.TheVariants as refusals
 use Rattle.raft_model.specs.Rafts.{Raft}
 use Rattle.raft_core.specs.RaftView.{RaftView}
-use Rattle.raft_core.specs.Steps.{Refines}
+use Rattle.raft_core.specs.Steps.{RefinesRaft}
 use Rattle.fsm_model.specs.Words.{State}
 use Rattle.fsm_model.specs.ClusterMachine.{cluster_spec}
 use Rattle.group_model.specs.Desks.{Desk, projected_state}
@@ -33,8 +33,8 @@ module _ (s : Raft Command) (node : ℕ) where
   drain_told d (Ok c) e = told d c e
   drain_told d (Err cause) e = tt
 
-pub drain_told_each : (raft : RaftView State Command) (node : ℕ) (d : Option OpenDesk) (w : State) → ((s : Raft Command) → Refines cluster_spec raft s → w ≡ projected_state s) → (r : Result (Option Command) Refusal) → IfOk r (λ c. if_open (on_drain_turn node w) d ≡ Ok c) →
-    IfOk r (λ c. (s : Raft Command) → Refines cluster_spec raft s → drain_at s (group_desk d) node ≡ Ok (proposes_if_any (group_desk d) c))
+pub drain_told_each : (raft : RaftView State Command) (node : ℕ) (d : Option OpenDesk) (w : State) → ((s : Raft Command) → RefinesRaft cluster_spec raft s → w ≡ projected_state s) → (r : Result (Option Command) Refusal) → IfOk r (λ c. if_open (on_drain_turn node w) d ≡ Ok c) →
+    IfOk r (λ c. (s : Raft Command) → RefinesRaft cluster_spec raft s → drain_at s (group_desk d) node ≡ Ok (proposes_if_any (group_desk d) c))
 drain_told_each raft node d w known (Ok c) e = λ s r. drain_told s node d (Ok c) (subst (λ (x : State). if_open (on_drain_turn node x) d ≡ Ok c) (known s r) e)
 drain_told_each raft node d w known (Err cause) e = tt
 
@@ -51,8 +51,8 @@ module _ (s : Raft Command) (node : ℕ) where
     lacked (Some o) h = h
   refused_or d e (inr call) = inr (refused d e call)
 
-pub drain_refused_each : (raft : RaftView State Command) (node : ℕ) (d : Option OpenDesk) (w : State) → ((s : Raft Command) → Refines cluster_spec raft s → w ≡ projected_state s) → (r : Result (Option Command) Refusal) → IfErr r (λ e. OutOfMemoryIfOpen d e ⊎ (if_open (on_drain_turn node w) d ≡ Err e)) →
-    IfErr r (λ e. (s : Raft Command) → Refines cluster_spec raft s → (e ≡ refusals.NoMemory) ⊎ (drain_at s (group_desk d) node ≡ Err e))
+pub drain_refused_each : (raft : RaftView State Command) (node : ℕ) (d : Option OpenDesk) (w : State) → ((s : Raft Command) → RefinesRaft cluster_spec raft s → w ≡ projected_state s) → (r : Result (Option Command) Refusal) → IfErr r (λ e. OutOfMemoryIfOpen d e ⊎ (if_open (on_drain_turn node w) d ≡ Err e)) →
+    IfErr r (λ e. (s : Raft Command) → RefinesRaft cluster_spec raft s → (e ≡ refusals.NoMemory) ⊎ (drain_at s (group_desk d) node ≡ Err e))
 drain_refused_each raft node d w known (Ok c) told = tt
 drain_refused_each raft node d w known (Err e) told = λ s r. refused_or s node d e (subst (λ (x : State). OutOfMemoryIfOpen d e ⊎ (if_open (on_drain_turn node x) d ≡ Err e)) (known s r) told)
 

@@ -15,7 +15,7 @@ use Rattle.raft_core.specs.declared.input.Input.TheVariants as raft_inputs
 use Rattle.raft_core.specs.RaftView.{RaftView}
 use Rattle.raft_core.specs.Frames.{Means}
 use Rattle.raft_core.specs.Inputs.{handed, Own}
-use Rattle.raft_core.specs.Steps.{Refines, Steps, Takes, TakesMessage}
+use Rattle.raft_core.specs.Steps.{RefinesRaft, Steps, Takes, TakesMessage}
 use Rattle.raft_core.specs.Refusals.{OutOfMemoryStays, Stays, MessageStays, RefusalShows}
 use Rattle.raft_snapshot.specs.Watching.{SeesStep}
 use Rattle.fsm_model.specs.Words.{State}
@@ -99,8 +99,8 @@ module _ (old : ServerView) (raft : RaftView State Command) (seen desk : Option 
   -- ---- a message of the log comes
 
   pub hear_takes : (read : WireMessage State Command) (before after : Outbox) (r : Answer)
-      → OnOk r ((s : rafts.Raft Command) → Refines cluster_spec old.raft s → TakesMessage cluster_spec old.raft s read raft before.frames after.frames)
-      → OnOk r ((s next : rafts.Raft Command) → Refines cluster_spec old.raft s → Refines cluster_spec raft next → SeesStep cluster_spec DeskSees s next old.desk seen)
+      → OnOk r ((s : rafts.Raft Command) → RefinesRaft cluster_spec old.raft s → TakesMessage cluster_spec old.raft s read raft before.frames after.frames)
+      → OnOk r ((s next : rafts.Raft Command) → RefinesRaft cluster_spec old.raft s → RefinesRaft cluster_spec raft next → SeesStep cluster_spec DeskSees s next old.desk seen)
       → after.work ≡ before.work
       → OnOk r ((said : Message Command) → Means cluster_spec read said → TakesLogMessage old said (record { raft = raft; desk = desk }) before after)
   hear_takes read before after (Ok u) taken sees work = λ said means s is.
@@ -154,8 +154,8 @@ module _ (old : ServerView) (raft : RaftView State Command) (seen desk : Option 
   by = asked_by old.raft.size old.raft.me input asked
 
   pub own_takes : (before after : Outbox) (r : Answer)
-      → OnOk r ((s : rafts.Raft Command) → Refines cluster_spec old.raft s → Takes cluster_spec old.raft s (handed input) raft before.frames after.frames)
-      → OnOk r ((s next : rafts.Raft Command) → Refines cluster_spec old.raft s → Refines cluster_spec raft next → SeesStep cluster_spec DeskSees s next old.desk seen)
+      → OnOk r ((s : rafts.Raft Command) → RefinesRaft cluster_spec old.raft s → Takes cluster_spec old.raft s (handed input) raft before.frames after.frames)
+      → OnOk r ((s next : rafts.Raft Command) → RefinesRaft cluster_spec old.raft s → RefinesRaft cluster_spec raft next → SeesStep cluster_spec DeskSees s next old.desk seen)
       → after.work ≡ before.work
       → OnOk r (TakesAsk old (log_ask input) (record { raft = raft; desk = desk }) before after)
   own_takes before after (Ok u) taken sees work =

@@ -9,7 +9,7 @@ use Rattle.raft_model.specs.Logs.{MAX, state_after}
 use Rattle.raft_model.specs.Rafts.{Raft, RaftTurn, is_up, is_leader, silent, extended}
 use Rattle.raft_model.specs.Steps as raft_steps
 use Rattle.raft_core.specs.RaftView.{RaftView}
-use Rattle.raft_core.specs.Steps.{Refines, Takes}
+use Rattle.raft_core.specs.Steps.{RefinesRaft, Takes}
 use Rattle.wire.specs.Frames.{Frame}
 use Rattle.raft_core.specs.Inputs.{Own}
 use Rattle.raft_core.specs.Refusals.{HidesNothing, IsRefused, refusal_by}
@@ -82,8 +82,8 @@ held_by s None up value held = absurd (let q : true ≡ false = sym up ∙ value
 held_by s (Some n) up value held = subst (λ (k : ℕ). k ≤ length s.log) value.1 held
 
 module _ (old : ServerView) (new : RaftView State Command) (c : Command) (up : is_up old.raft.server.mode ≡ true) where
-  pub propose_takes : (n : Option ℕ) → ((s : Raft Command) → Refines cluster_spec old.raft s → MatchOption n (is_up s.mode ≡ false) (λ k. (is_up s.mode ≡ true) × (k ≡ s.commit))) → ((s : Raft Command) → Refines cluster_spec old.raft s → IfSome n (λ k. k ≤ length s.log))
-      → (r : Answer) → OnOk r ((s : Raft Command) (sent : List Frame) → Refines cluster_spec old.raft s → Takes cluster_spec old.raft s (Own (raft_steps.Propose c)) new sent sent)
+  pub propose_takes : (n : Option ℕ) → ((s : Raft Command) → RefinesRaft cluster_spec old.raft s → MatchOption n (is_up s.mode ≡ false) (λ k. (is_up s.mode ≡ true) × (k ≡ s.commit))) → ((s : Raft Command) → RefinesRaft cluster_spec old.raft s → IfSome n (λ k. k ≤ length s.log))
+      → (r : Answer) → OnOk r ((s : Raft Command) (sent : List Frame) → RefinesRaft cluster_spec old.raft s → Takes cluster_spec old.raft s (Own (raft_steps.Propose c)) new sent sent)
       → OnOk r (EachServer old (λ s. IsProposed s c (record { raft = new; desk = old.desk })))
   propose_takes n value held (Err cause) taken = tt
   propose_takes n value held (Ok u) taken = λ s is.
@@ -94,10 +94,10 @@ module _ (old : ServerView) (new : RaftView State Command) (c : Command) (up : i
       record {
         leads = p.leads;
         admitted = p.admitted;
-        server = record { raft = subst (λ (t : Raft Command). Refines cluster_spec new t) p.log steps.refines; desk = is.desk; led = proposal_keeps s.raft c old.desk within is.led };
+        server = record { raft = subst (λ (t : Raft Command). RefinesRaft cluster_spec new t) p.log steps.refines; desk = is.desk; led = proposal_keeps s.raft c old.desk within is.led };
       }
 
-  pub propose_declines : (r : Answer) → IfErr r (λ cause. (s : Raft Command) → Refines cluster_spec old.raft s → IsRefused cluster_spec old.raft.size old.raft.me s (Own (raft_steps.Propose c)) cause) →
-      IfErr r (λ cause. (s : Raft Command) → Refines cluster_spec old.raft s → HidesNothing cluster_spec old.raft.size old.raft.me s (Own (raft_steps.Propose c)) cause) → IfErr r (λ cause. EachServer old (λ s. WhyNotProposed s.raft c cause))
+  pub propose_declines : (r : Answer) → IfErr r (λ cause. (s : Raft Command) → RefinesRaft cluster_spec old.raft s → IsRefused cluster_spec old.raft.size old.raft.me s (Own (raft_steps.Propose c)) cause) →
+      IfErr r (λ cause. (s : Raft Command) → RefinesRaft cluster_spec old.raft s → HidesNothing cluster_spec old.raft.size old.raft.me s (Own (raft_steps.Propose c)) cause) → IfErr r (λ cause. EachServer old (λ s. WhyNotProposed s.raft c cause))
   propose_declines (Ok u) h hidden = tt
   propose_declines (Err cause) h hidden = λ s is. refused old.raft.size old.raft.me s.raft c (up_of old s is up) cause (h s.raft is.raft) (hidden s.raft is.raft)

@@ -4,7 +4,7 @@ use Rattle.std.specs.Prelude.{IfSome, is_some}
 use Rattle.rows.specs.declared.command.Command.{Command}
 use Rattle.raft_model.specs.Rafts.{Raft, is_up, is_leader, crashed}
 use Rattle.raft_core.specs.RaftView.{RaftView, SameRaft, IsCrashOf}
-use Rattle.raft_core.specs.Steps.{Refines}
+use Rattle.raft_core.specs.Steps.{RefinesRaft}
 use Rattle.raft_core.proofs.Fills.{same_fills, crash_fills}
 use Rattle.fsm_model.specs.Words.{State}
 use Rattle.fsm_model.specs.ClusterMachine.{cluster_spec}
@@ -17,13 +17,13 @@ use Rattle.server.specs.Inner.Acts.{Serves}
 
 -- ---- the only lemmas that know how a value stands for a server
 
-pub mode_is : (view : RaftView State Command) (s : Raft Command) → Refines cluster_spec view s → s.mode ≡ view.server.mode
+pub mode_is : (view : RaftView State Command) (s : Raft Command) → RefinesRaft cluster_spec view s → s.mode ≡ view.server.mode
 mode_is view s r = ap (λ (x : Raft Command). x.mode) r.is
 
-pub same_raft : (old new : RaftView State Command) (s : Raft Command) → SameRaft old new → Refines cluster_spec old s → Refines cluster_spec new s
+pub same_raft : (old new : RaftView State Command) (s : Raft Command) → SameRaft old new → RefinesRaft cluster_spec old s → RefinesRaft cluster_spec new s
 same_raft old new s same r = same_fills cluster_spec old new same s r
 
-crashed_raft : (old new : RaftView State Command) (s : Raft Command) → IsCrashOf old new → Refines cluster_spec old s → Refines cluster_spec new (crashed s)
+crashed_raft : (old new : RaftView State Command) (s : Raft Command) → IsCrashOf old new → RefinesRaft cluster_spec old s → RefinesRaft cluster_spec new (crashed s)
 crashed_raft old new s lost r = crash_fills cluster_spec old new lost s r
 
 -- ---- what a value shows of each

@@ -4,7 +4,7 @@ use Rattle.std.specs.Prelude.{◌≡◌, true, Option, None, option_map, IfSome}
 use Rattle.rows.specs.declared.command.Command.{Command}
 use Rattle.raft_model.specs.Rafts.{Raft, is_leader, crashed, restarted}
 use Rattle.raft_core.specs.RaftView.{RaftView, SameRaft}
-use Rattle.raft_core.specs.Steps.{Refines}
+use Rattle.raft_core.specs.Steps.{RefinesRaft}
 use Rattle.fsm_model.specs.Words.{State}
 use Rattle.fsm_model.specs.ClusterMachine.{cluster_spec}
 use Rattle.group_model.specs.Desks.{Desk, applied_state}
@@ -29,7 +29,7 @@ pub record IsOfLeader (s : Raft Command) (o : OpenDesk) : Type 0 where
 
 -- which server of the definitions a value is
 pub record RefinesServer (view : ServerView) (s : Server) : Type 0 where
-  pub raft : Refines cluster_spec view.raft s.raft
+  pub raft : RefinesRaft cluster_spec view.raft s.raft
   pub desk : group_desk view.desk ≡ s.desk
   pub led : IfSome view.desk (IsOfLeader s.raft)
 

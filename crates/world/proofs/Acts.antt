@@ -14,7 +14,7 @@ use Rattle.raft_model.specs.Steps.{Input, Arrives, Timeout, Beat, Propose, Compa
 use Rattle.raft_model.specs.Worlds.{World, Event, Deliver, TimesOut, Beats, Proposes, Compacts, Crashes, Restarts, Run, IsRestart}
 use Rattle.raft_core.specs.RaftView.{RaftView}
 use Rattle.raft_core.specs.Refusals.{refusal}
-use Rattle.raft_core.specs.Steps.{Refines, Steps}
+use Rattle.raft_core.specs.Steps.{RefinesRaft, Steps}
 use Rattle.raft_safety.specs.Claims.{IsAmongMembers}
 use Rattle.raft_safety.proofs.Places.{get-within}
 use Rattle.world.specs.declared.done.Done.{Done}
@@ -78,12 +78,12 @@ module _ {S C : Type 0} (m : MachineSpec S C) (old : WorldView S C) (e : Event C
   record Scene (w : World C) : Type 0 where
     server : Raft C
     at : slice_get w.servers i ≡ Some server
-    refines : Refines m h server
+    refines : RefinesRaft m h server
     brings : Brings m old.sent w e i
 
   scene : (w : World C) → RefinesWorld m old w → Scene w
   scene w st =
-      let s = zip_at (Refines m) old.servers w.servers i h st.servers a.here in
+      let s = zip_at (RefinesRaft m) old.servers w.servers i h st.servers a.here in
       record { server = s.0; at = s.1; refines = s.2; brings = brings m old.sent w e i st.sent (a.acts w st.sent) }
 
   pub is_for : IsSent old.sent e → IsForServer m h old.sent e
@@ -111,7 +111,7 @@ module _ {S C : Type 0} (m : MachineSpec S C) (old : WorldView S C) (e : Event C
         λ w st. let c = scene w st in let t = crash w st in (t.turn, moved m old new (Crashes i) i h h2 a.reached.numbered a.here servers w st c.server Crash c.at refl t) in
         let happened = goes_by m old new (Crashes i) i h h2 a.reached.numbered a.here servers tt p.trace move (λ w st. omega (arith, p.chain)) in
         let lacking : (w : World C) (s : Raft C) → RefinesWorld m old w → slice_get w.servers i ≡ Some s → OutOfMemoryMayEndFor w e s =
-        λ w s st at. let c = scene w st in let b = c.brings in let is : c.server ≡ s = same_Some c.server s (sym c.at ∙ at) in (b.input, b.is, b.wants s.mode (p.lacks s (subst (λ x. Refines m h x) is c.refines))) in
+        λ w s st at. let c = scene w st in let b = c.brings in let is : c.server ≡ s = same_Some c.server s (sym c.at ∙ at) in (b.input, b.is, b.wants s.mode (p.lacks s (subst (λ x. RefinesRaft m h x) is c.refines))) in
         record {
           ok = inl (record { who = i; actor = λ w st. a.acts w st.sent; lacking = lacking; happened = happened });
           err = tt;
@@ -166,13 +166,13 @@ module _ {S C : Type 0} (m : MachineSpec S C) (old : WorldView S C) (e : Event C
       addressed past w run Restart came = tt
 
       -- a server refuses what the definitions refuse
-      refuses : (r : Refusal) → ((s : Raft C) → Refines m h s → refusal m h.size h.me s (handed_by old.sent e) ≡ Some r) → RefusesEvent m old e r
+      refuses : (r : Refusal) → ((s : Raft C) → RefinesRaft m h s → refusal m h.size h.me s (handed_by old.sent e) ≡ Some r) → RefusesEvent m old e r
       refuses r says past w run =
           let c = scene w run.refines in
           let b = c.brings in
           let no_step : step m h.size h.me c.server b.input ≡ Err r = refused_is m h.size h.me again c.server (handed_by old.sent e) b.input r b.reads (addressed past w run b.input b.came) (says c.server c.refines) in
           let st = run.refines in
-          let n : h.size ≡ length w.servers = size_is ∙ zip_length (Refines m) old.servers w.servers st.servers in
+          let n : h.size ≡ length w.servers = size_is ∙ zip_length (RefinesRaft m) old.servers w.servers st.servers in
           let stepped : step m (length w.servers) i c.server b.input ≡ Err r =
           subst (λ (k : ℕ). step m k i c.server b.input ≡ Err r) n (subst (λ (j : ℕ). step m h.size j c.server b.input ≡ Err r) me_is no_step) in
           b.takes ∙ took m w i b.input c.server (Err r) c.at stepped

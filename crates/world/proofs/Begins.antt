@@ -5,7 +5,7 @@ use Rattle.machine_model.specs.MachineSpec.{MachineSpec}
 use Rattle.raft_model.specs.Rafts.{newcomer}
 use Rattle.raft_model.specs.Worlds.{first, start, Run}
 use Rattle.raft_core.specs.RaftView.{RaftView}
-use Rattle.raft_core.specs.Steps.{Refines}
+use Rattle.raft_core.specs.Steps.{RefinesRaft}
 use Rattle.raft_core.specs.Frames.{FrameCarries}
 use Rattle.raft_safety.specs.Claims.{IsGreatestCommit}
 use Rattle.rows.specs.GroupSizes.{IsGroup}
@@ -16,7 +16,7 @@ use Rattle.world.proofs.Heights.{first_height}
 -- the first servers are made, so many
 pub record Begun {S C : Type 0} (m : MachineSpec S C) (n made : ℕ) (servers : List (RaftView S C)) : Type 0 where
   pub count : length servers ≡ made
-  pub stand : AllZip (Refines m) servers (replicate made newcomer)
+  pub stand : AllZip (RefinesRaft m) servers (replicate made newcomer)
   pub numbered : (j : ℕ) (h : RaftView S C) → slice_get servers j ≡ Some h → (h.me ≡ j) × (h.size ≡ n)
 
 pub begun_none : {S C : Type 0} (m : MachineSpec S C) (n : ℕ) → Begun m n 0 []
@@ -33,13 +33,13 @@ one_more zero x = refl
 one_more (suc k) x = ap (λ l. x ∷ l) (one_more k x)
 
 pub begun_next : {S C : Type 0} (m : MachineSpec S C) (n made : ℕ) (servers after : List (RaftView S C)) (h : RaftView S C) → Begun m n made servers → after ≡ servers ++ h ∷ [] → (h.me ≡ made) × (h.size ≡ n) →
-    Refines m h newcomer → Begun m n (made + 1) after
+    RefinesRaft m h newcomer → Begun m n (made + 1) after
 begun_next {S = S} {C = C} m n made servers after h b pushed is r =
     let next : made + 1 ≡ suc made = omega arith in
     subst (λ l. Begun m n (made + 1) l) (sym pushed) (record {
       count = (let c = b.count in omega (arith, length-append servers (h ∷ [])));
-      stand = subst (λ k. AllZip (Refines m) (servers ++ h ∷ []) (replicate k newcomer)) (sym next)
-          (subst (λ l. AllZip (Refines m) (servers ++ h ∷ []) l) (one_more made newcomer) (zip_append (Refines m) servers (replicate made newcomer) (h ∷ []) (newcomer ∷ []) b.stand (r, tt)));
+      stand = subst (λ k. AllZip (RefinesRaft m) (servers ++ h ∷ []) (replicate k newcomer)) (sym next)
+          (subst (λ l. AllZip (RefinesRaft m) (servers ++ h ∷ []) l) (one_more made newcomer) (zip_append (RefinesRaft m) servers (replicate made newcomer) (h ∷ []) (newcomer ∷ []) b.stand (r, tt)));
       numbered = λ j a at. elim (get_end servers h j a at) [
         | inl e ↦ b.numbered j a e
         | inr e ↦ subst (λ (x : RaftView S C). (x.me ≡ j) × (x.size ≡ n)) e.1 (is.0 ∙ sym (e.0 ∙ b.count), is.1)

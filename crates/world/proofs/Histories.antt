@@ -11,7 +11,7 @@ use Rattle.raft_model.specs.Rafts.{Raft, is_up}
 use Rattle.raft_model.specs.Worlds.{World}
 use Rattle.raft_model.specs.Chains.{Agree, Chain}
 use Rattle.raft_core.specs.RaftView.{RaftView}
-use Rattle.raft_core.specs.Steps.{Refines}
+use Rattle.raft_core.specs.Steps.{RefinesRaft}
 use Rattle.raft_safety.proofs.Places.{get-last}
 use Rattle.raft_safety.proofs.Sound.{commands_length}
 use Rattle.world.specs.WorldView.{WorldView, RunsTo}
@@ -26,13 +26,13 @@ module _ {S C : Type 0} (m : MachineSpec S C) where
 
   module _ (seen : WorldView S C) (i : ℕ) (past : List (World C)) (w : World C) (runs : RunsTo m seen past w) where
     pub no_machine : slice_get seen.servers i ≡ None → None ≡ machine_of m w i
-    no_machine gone = let st = runs.refines in let none : slice_get w.servers i ≡ None = zip_none (Refines m) seen.servers w.servers i st.servers gone in rw none refl
+    no_machine gone = let st = runs.refines in let none : slice_get w.servers i ≡ None = zip_none (RefinesRaft m) seen.servers w.servers i st.servers gone in rw none refl
 
     pub machine_is : (h : RaftView S C) (o : Option (Bor S)) → slice_get seen.servers i ≡ Some h →
-        ((s : Raft C) → Refines m h s → MatchOption o (is_up s.mode ≡ false) (λ r. (is_up s.mode ≡ true) × (r.now ≡ state_after m (take s.commit s.log)))) → option_copied o ≡ machine_of m w i
+        ((s : Raft C) → RefinesRaft m h s → MatchOption o (is_up s.mode ≡ false) (λ r. (is_up s.mode ≡ true) × (r.now ≡ state_after m (take s.commit s.log)))) → option_copied o ≡ machine_of m w i
     machine_is h o here says =
         let st = runs.refines in
-        let s = zip_at (Refines m) seen.servers w.servers i h st.servers here in
+        let s = zip_at (RefinesRaft m) seen.servers w.servers i h st.servers here in
         let there : slice_get w.servers i ≡ Some s.0 = s.1 in
         rw there (running_is s.0 o (says s.0 s.2))
 

@@ -15,7 +15,7 @@ use Rattle.raft_model.specs.Worlds.{Event, Deliver, TimesOut, Beats, Proposes, C
 use Rattle.raft_core.specs.RaftView.{RaftView}
 use Rattle.raft_core.specs.Frames.{IsFrameOf, Says}
 use Rattle.raft_core.specs.Inputs.{Handed, Bytes, Own, Reads}
-use Rattle.raft_core.specs.Steps.{Refines}
+use Rattle.raft_core.specs.Steps.{RefinesRaft}
 use Rattle.raft_core.specs.Refusals.{refusal, refusal_by, frame_refusal, MayEndOutOfMemory, IsRefused, OutOfMemoryLeaves, OutOfMemoryStays, RefusalLeaves, Stays}
 use Rattle.world.specs.Steps.{LeftServer}
 use Rattle.world.specs.Inner.HistoryView.{HistoryView}
@@ -86,7 +86,7 @@ leads_up (Leader next match) h = refl
 
 module _ {S C : Type 0} (m : MachineSpec S C) (h h2 : RaftView S C) (sent : List Frame) (s : Raft C) where
   -- want of memory is a crash
-  pub fallen : (e : Event C) → is_restart e ≡ false → MayEndOutOfMemory s.mode (handed_by sent e) → OutOfMemoryLeaves m h s (handed_by sent e) h2 → (is_up s.mode ≡ true) × Refines m h2 (crashed s)
+  pub fallen : (e : Event C) → is_restart e ≡ false → MayEndOutOfMemory s.mode (handed_by sent e) → OutOfMemoryLeaves m h s (handed_by sent e) h2 → (is_up s.mode ≡ true) × RefinesRaft m h2 (crashed s)
   fallen (Deliver k) other may left = (may, left)
   fallen (TimesOut i) other may left = (may.0, left)
   fallen (Beats i) other may left = (leads_up s.mode may, left)
@@ -124,7 +124,7 @@ module _ {S C : Type 0} (m : MachineSpec S C) (old : RaftView S C) (h : Handed C
   leaves s _ left = as_is old new left
 
   -- a refusal of a step leaves the same server
-  pub step_leaves : {T : Type 0} (r : Result T Refusal) → IfErr r (λ cause. (s : Raft C) → Refines m old s → RefusalLeaves m old s h cause new) → IfErr r (λ cause. (s : Raft C) → Refines m old s → Leaves m old s h cause new)
+  pub step_leaves : {T : Type 0} (r : Result T Refusal) → IfErr r (λ cause. (s : Raft C) → RefinesRaft m old s → RefusalLeaves m old s h cause new) → IfErr r (λ cause. (s : Raft C) → RefinesRaft m old s → Leaves m old s h cause new)
   step_leaves (Ok x) f = tt
   step_leaves (Err cause) f = λ s r. leaves s cause (f s r)
 
@@ -139,7 +139,7 @@ module _ {S C : Type 0} (old : RaftView S C) (h : Handed C) (new : RaftView S C)
 
 -- any other refusal leaves the same server, and is that of what is handed in
 pub part_refused : {S C : Type 0} (m : MachineSpec S C) (h h2 : RaftView S C) (past : HistoryView C) (e : Event C) (cause : Refusal) → cause ≢ refusals.NoMemory →
-    ((s : Raft C) → Refines m h s → IsRefused m h.size h.me s (handed_by past.sent e) cause) →
+    ((s : Raft C) → RefinesRaft m h s → IsRefused m h.size h.me s (handed_by past.sent e) cause) →
     StaysOrLeft (handed_by past.sent e) cause h h2 → LeftServer h h2 × IsPartRefused m h past e cause
 part_refused m h h2 past e refusals.NoMemory other refused left = absurd (other refl)
 part_refused m h h2 past e _ other refused left = (left, refused)

@@ -7,7 +7,7 @@ use Rattle.std.specs.List.{AllZip}
 use Rattle.machine_model.specs.MachineSpec.{MachineSpec}
 use Rattle.raft_model.specs.Logs.{MAX}
 use Rattle.raft_model.specs.Worlds.{World}
-use Rattle.raft_core.specs.Steps.{Refines}
+use Rattle.raft_core.specs.Steps.{RefinesRaft}
 use Rattle.raft_safety.specs.Claims.{EachRun}
 use Rattle.raft_safety.proofs.Places.{get-within}
 use Rattle.raft_progress.specs.Recovery.{HasRoom, everybody}
@@ -55,11 +55,11 @@ module _ {A B : Type 0} (IsOf : A → B → Type 0) (P : B → Type 0) where
 
 -- so of the servers of a world
 pub room_told : {S C : Type 0} (m : MachineSpec S C) (view : WorldView S C) (w : World C) (b : Bool) → RefinesWorld m view w →
-    MatchBool b (EachHas (Refines m) RaftHasRoom view.servers) (OneLacks (Refines m) RaftHasRoom view.servers) →
+    MatchBool b (EachHas (RefinesRaft m) RaftHasRoom view.servers) (OneLacks (RefinesRaft m) RaftHasRoom view.servers) →
     MatchBool b (HasRoom (length view.servers) everybody w) (HasRoom (length view.servers) everybody w → ⊥)
-room_told m view w true r told = λ j s less q here. all_have (Refines m) RaftHasRoom view.servers w.servers r.servers told j s here
-room_told m view w false r told = λ room. not_all (Refines m) RaftHasRoom view.servers w.servers r.servers told
-    (λ j s here. room j s (omega (arith, get-within w.servers j s here, zip_length (Refines m) view.servers w.servers r.servers)) refl here)
+room_told m view w true r told = λ j s less q here. all_have (RefinesRaft m) RaftHasRoom view.servers w.servers r.servers told j s here
+room_told m view w false r told = λ room. not_all (RefinesRaft m) RaftHasRoom view.servers w.servers r.servers told
+    (λ j s here. room j s (omega (arith, get-within w.servers j s here, zip_length (RefinesRaft m) view.servers w.servers r.servers)) refl here)
 
 -- and of a group
 pub group_room_told : (view : GroupView) (w : group_worlds.World) (b : Bool) → RefinesGroup view w →
@@ -74,7 +74,7 @@ group_room_told view w false r told = λ room. not_all RefinesServer ServerHasRo
 -- a short run has room
 pub short_told : {S C : Type 0} (m : MachineSpec S C) (view : WorldView S C) → IsRaftWorld m view →
     EachRun m (λ n events past w. 2 ≤ n → length events + 2 ≤ MAX → (Q : ℕ → Bool) → HasRoom n Q w) → (b : Bool) →
-    MatchBool b (EachHas (Refines m) RaftHasRoom view.servers) (OneLacks (Refines m) RaftHasRoom view.servers) → length view.trace + 2 ≤ MAX → b ≡ true
+    MatchBool b (EachHas (RefinesRaft m) RaftHasRoom view.servers) (OneLacks (RefinesRaft m) RaftHasRoom view.servers) → length view.trace + 2 ≤ MAX → b ≡ true
 short_told m view i has true told short = refl
 short_told m view i has false told short = absurd (room_told m view i.world false i.runs.refines told (has (length view.servers) view.trace i.past i.world i.runs.run (two (length view.servers) i.size) short everybody))
 

@@ -6,7 +6,7 @@ use Rattle.raft_model.specs.Rafts.{Raft}
 use Rattle.raft_model.specs.Worlds.{World, Run}
 use Rattle.raft_core.specs.RaftView.{RaftView}
 use Rattle.raft_core.specs.Frames.{FrameCarries}
-use Rattle.raft_core.specs.Steps.{Refines}
+use Rattle.raft_core.specs.Steps.{RefinesRaft}
 use Rattle.raft_core.proofs.Fills.{same_fills}
 use Rattle.raft_safety.specs.Claims.{IsGreatestCommit}
 use Rattle.rows.specs.GroupSizes.{IsGroup}
@@ -26,7 +26,7 @@ pub same_world : {S C : Type 0} (w : WorldView S C) → SameWorld w w
 same_world w = record { servers = same_all w.servers; sent = refl; trace = refl; chain = refl }
 
 module _ {S C : Type 0} (m : MachineSpec S C) where
-  refines_on : (xs ys : List (RaftView S C)) (ss : List (Raft C)) → AllZip LeftServer xs ys → AllZip (Refines m) xs ss → AllZip (Refines m) ys ss
+  refines_on : (xs ys : List (RaftView S C)) (ss : List (Raft C)) → AllZip LeftServer xs ys → AllZip (RefinesRaft m) xs ss → AllZip (RefinesRaft m) ys ss
   refines_on [] [] ss same r = r
   refines_on [] (y ∷ ys) ss same r = absurd same
   refines_on (x ∷ xs) [] ss same r = absurd same

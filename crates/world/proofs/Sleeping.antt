@@ -12,7 +12,7 @@ use Rattle.raft_model.specs.Worlds.{World, Event, happens, after_turn, acting_se
 use Rattle.raft_safety.proofs.Places.{get-within}
 use Rattle.raft_core.specs.RaftView.{RaftView}
 use Rattle.raft_core.specs.Frames.{FrameCarries}
-use Rattle.raft_core.specs.Steps.{Refines, role_of}
+use Rattle.raft_core.specs.Steps.{RefinesRaft, role_of}
 use Rattle.raft_core.specs.declared.role.Role.{Role}
 use Rattle.world.specs.WorldView.{WorldView}
 use Rattle.world.specs.Steps.{RefusesEvent, IsAwake}
@@ -90,13 +90,13 @@ module _ {S C : Type 0} (m : MachineSpec S C) (now : WorldView S C) (e : Event C
   pub refuses_absent : slice_get now.servers i ≡ None → RefusesEvent m now e refusals.OutOfRange
   refuses_absent gone past w r =
       let st = r.refines in
-      absent m now.sent w st.sent e i (acts w st.sent) (zip_none (Refines m) now.servers w.servers i st.servers gone)
+      absent m now.sent w st.sent e i (acts w st.sent) (zip_none (RefinesRaft m) now.servers w.servers i st.servers gone)
 
-  module _ (h : RaftView S C) (role : Option Role) (here : slice_get now.servers i ≡ Some h) (says : (s : Raft C) → Refines m h s → role ≡ role_of s.mode) where
+  module _ (h : RaftView S C) (role : Option Role) (here : slice_get now.servers i ≡ Some h) (says : (s : Raft C) → RefinesRaft m h s → role ≡ role_of s.mode) where
     pub refuses_sleeping : is_some role ≡ false → is_restart e ≡ false → RefusesEvent m now e refusals.Down
     refuses_sleeping none other past w r =
         let st = r.refines in
-        let s = zip_at (Refines m) now.servers w.servers i h st.servers here in
+        let s = zip_at (RefinesRaft m) now.servers w.servers i h st.servers here in
         let down : is_up s.0.mode ≡ false = asleep s.0.mode (ap is_some (sym (says s.0 s.2)) ∙ none) in
         sleeping m now.sent w st.sent e i s.0 (acts w st.sent) s.1 down other
 
@@ -104,7 +104,7 @@ module _ {S C : Type 0} (m : MachineSpec S C) (now : WorldView S C) (e : Event C
     pub is_awake : LawfulMachine m → (is_some role ≡ true) ⊎ (is_restart e ≡ true) → IsAwake m now e
     is_awake law up past w r =
         let st = r.refines in
-        let s = zip_at (Refines m) now.servers w.servers i h st.servers here in
+        let s = zip_at (RefinesRaft m) now.servers w.servers i h st.servers here in
         let b = brings m now.sent w e i st.sent (acts w st.sent) in
         let n = length w.servers in
         let stepped : Awake (step m n i s.0 b.input) = elim up [

@@ -16,7 +16,7 @@ use Rattle.raft_model.proofs.Cases.{same_ok}
 use Rattle.raft_core.specs.declared.ticket.ProposalStatus.{ProposalStatus}
 use Rattle.raft_core.specs.declared.ticket.ProposalStatus.TheVariants.{Pending, Committed, Superseded, Compacted}
 use Rattle.raft_core.specs.RaftView.{RaftView}
-use Rattle.raft_core.specs.Steps.{Refines}
+use Rattle.raft_core.specs.Steps.{RefinesRaft}
 use Rattle.raft_core.specs.Tickets.{IsTicket, proposal_status_of}
 use Rattle.raft_safety.specs.Claims.{EachRun}
 use Rattle.raft_safety.specs.Tickets as tickets
@@ -110,12 +110,12 @@ module _ {C : Type 0} (index term : ℕ) where
 module _ {S C : Type 0} (m : MachineSpec S C) where
   module _ (seen : WorldView S C) (i index term : ℕ) (past : List (World C)) (w : World C) (runs : RunsTo m seen past w) where
     pub no_standing : slice_get seen.servers i ≡ None → None ≡ proposal_status_in w i index term
-    no_standing gone = let st = runs.refines in let none : slice_get w.servers i ≡ None = zip_none (Refines m) seen.servers w.servers i st.servers gone in rw none refl
+    no_standing gone = let st = runs.refines in let none : slice_get w.servers i ≡ None = zip_none (RefinesRaft m) seen.servers w.servers i st.servers gone in rw none refl
 
-    pub standing_is : (h : RaftView S C) (r : Option ProposalStatus) → slice_get seen.servers i ≡ Some h → ((s : Raft C) → Refines m h s → r ≡ proposal_status_of s index term) → r ≡ proposal_status_in w i index term
+    pub standing_is : (h : RaftView S C) (r : Option ProposalStatus) → slice_get seen.servers i ≡ Some h → ((s : Raft C) → RefinesRaft m h s → r ≡ proposal_status_of s index term) → r ≡ proposal_status_in w i index term
     standing_is h r here says =
         let st = runs.refines in
-        let s = zip_at (Refines m) seen.servers w.servers i h st.servers here in
+        let s = zip_at (RefinesRaft m) seen.servers w.servers i h st.servers here in
         says s.0 s.2 ∙ ap (running_status index term) (sym s.1)
 
   -- what a server has applied is settled
@@ -179,15 +179,15 @@ module _ {S C : Type 0} (m : MachineSpec S C) where
         let st = runs.refines in
         let p = last_step (length new.servers) new.trace l.past l.world runs.run old.trace (Proposes i command) happened.trace in
         let q = taken_by p.0 l.world (slice_get p.0.servers i) refl p.1 in
-        let none : slice_get l.world.servers i ≡ None = zip_none (Refines m) new.servers l.world.servers i st.servers gone in
+        let none : slice_get l.world.servers i ≡ None = zip_none (RefinesRaft m) new.servers l.world.servers i st.servers gone in
         let both = sym q.1 ∙ none in cc
 
     module _ (old new : WorldView S C) (happened : EventHappened m old (Proposes i command) new) (view : RaftView S C) (here : slice_get new.servers i ≡ Some view) (index term : ℕ)
-        (last : (s : Raft C) → Refines m view s → index ≡ length s.log) (own : (s : Raft C) → Refines m view s → term ≡ s.term) where
+        (last : (s : Raft C) → RefinesRaft m view s → index ≡ length s.log) (own : (s : Raft C) → RefinesRaft m view s → term ≡ s.term) where
       ticket_in : (past : List (World C)) (w : World C) → RunsTo m new past w → (s : Raft C) × (slice_get w.servers i ≡ Some s) × IsTicket s command index term
       ticket_in past w runs =
           let st = runs.refines in
-          let t = zip_at (Refines m) new.servers w.servers i view st.servers here in
+          let t = zip_at (RefinesRaft m) new.servers w.servers i view st.servers here in
           let p = last_step (length new.servers) new.trace past w runs.run old.trace (Proposes i command) happened.trace in
           let q = taken_by p.0 w (slice_get p.0.servers i) refl p.1 in
           let is : t.0 ≡ extended q.0 command = same_Some t.0 (extended q.0 command) (sym t.1 ∙ q.1) in

@@ -8,7 +8,7 @@ use Rattle.raft_model.specs.Steps.{Input, step}
 use Rattle.raft_model.specs.Worlds.{World, Event, Run, more, IsEvent, happens, takes, after_turn}
 use Rattle.raft_core.specs.RaftView.{RaftView}
 use Rattle.raft_core.specs.Frames.{FrameCarries}
-use Rattle.raft_core.specs.Steps.{Refines, Steps}
+use Rattle.raft_core.specs.Steps.{RefinesRaft, Steps}
 use Rattle.raft_safety.specs.Claims.{IsGreatestCommit}
 use Rattle.raft_safety.proofs.Places.{get_set-cases, set-length}
 use Rattle.world.specs.Inner.Inputs.{committed}
@@ -34,7 +34,7 @@ module _ {S C : Type 0} (m : MachineSpec S C) (old new : WorldView S C) (e : Eve
     pub at : slice_get w.servers i ≡ Some server
     pub list : next.servers ≡ slice_set w.servers i turn.server
     pub happens : happens m w e ≡ Ok next
-    pub refines : Refines m h2 turn.server
+    pub refines : RefinesRaft m h2 turn.server
     pub world : RefinesWorld m new next
 
   pub count_kept : length new.servers ≡ length old.servers
@@ -43,7 +43,7 @@ module _ {S C : Type 0} (m : MachineSpec S C) (old new : WorldView S C) (e : Eve
   pub moved : (w : World C) (st : RefinesWorld m old w) (s : Raft C) (x : Input C) → slice_get w.servers i ≡ Some s → happens m w e ≡ takes m w i x → (t : Steps m h s x h2 old.sent new.sent) → Moved w t.turn
   moved w st s x at feed t =
       let n = numbered i h here in
-      let size : h.size ≡ length w.servers = n.1 ∙ zip_length (Refines m) old.servers w.servers st.servers in
+      let size : h.size ≡ length w.servers = n.1 ∙ zip_length (RefinesRaft m) old.servers w.servers st.servers in
       let stepped : step m (length w.servers) i s x ≡ Ok t.turn = subst (λ (k : ℕ). step m k i s x ≡ Ok t.turn) size (subst (λ (j : ℕ). step m h.size j s x ≡ Ok t.turn) n.0 t.step) in
       let next : World C = record { servers = slice_set w.servers i t.turn.server; sent = w.sent ++ t.turn.sent } in
       record {
@@ -54,7 +54,7 @@ module _ {S C : Type 0} (m : MachineSpec S C) (old new : WorldView S C) (e : Eve
         happens = feed ∙ took m w i x s (Ok t.turn) at stepped;
         refines = t.refines;
         world = record {
-          servers = subst (λ l. AllZip (Refines m) l next.servers) (sym servers) (zip_set (Refines m) old.servers w.servers i h2 t.turn.server st.servers t.refines);
+          servers = subst (λ l. AllZip (RefinesRaft m) l next.servers) (sym servers) (zip_set (RefinesRaft m) old.servers w.servers i h2 t.turn.server st.servers t.refines);
           sent = subst (λ l. AllZip (FrameCarries m) l next.sent) (sym t.sent.added) (zip_append (FrameCarries m) old.sent w.sent t.sent.frames t.turn.sent st.sent t.sent.carry);
         };
       }

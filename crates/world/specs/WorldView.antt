@@ -8,7 +8,7 @@ use Rattle.wire.specs.Frames.{Frame}
 use Rattle.raft_model.specs.Worlds.{World, Event, Run}
 use Rattle.raft_core.specs.RaftView.{RaftView}
 use Rattle.raft_core.specs.Frames.{FrameCarries}
-use Rattle.raft_core.specs.Steps.{Refines}
+use Rattle.raft_core.specs.Steps.{RefinesRaft}
 use Rattle.raft_safety.specs.Claims.{IsGreatestCommit}
 
 -- the servers, all frames that were ever sent, all events that happened, and how many entries were
@@ -21,7 +21,7 @@ pub record WorldView (S C : Type 0) : Type 0 where
 
 -- its servers represent those of the world, and its frames carry the messages there, one for one
 pub record RefinesWorld {S C : Type 0} (m : MachineSpec S C) (view : WorldView S C) (w : World C) : Type 0 where
-  pub servers : AllZip (Refines m) view.servers w.servers
+  pub servers : AllZip (RefinesRaft m) view.servers w.servers
   pub sent : AllZip (FrameCarries m) view.sent w.sent
 
 -- The trace is that of a run through the worlds `past` to w, which the value represents, and

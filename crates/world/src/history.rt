@@ -1,7 +1,7 @@
 //! What is kept beside the servers of a group, and what one event changes.
 ghost use Rattle.std.specs.Prelude.{◌≡◌, max, []};
 ghost use Rattle.raft_model.specs.Rafts.{Raft as AnyRaft};
-ghost use Rattle.raft_core.specs.Steps.{Refines};
+ghost use Rattle.raft_core.specs.Steps.{RefinesRaft};
 ghost use Rattle.world.specs.Events.{world_event, world_events};
 ghost use Rattle.world.specs.Inner.Inputs.{committed};
 ghost use Rattle.world.specs.Inner.Parts.{IsForServer, PartDone};
@@ -39,7 +39,7 @@ impl<M: Machine> Model for History<M> {
 
 /// The greater of the chain so far and what a server has applied.
 fn longer<M: Machine>(chain: Index, raft: &Raft<M>) -> Index
-    ensures { (s : AnyRaft M.Command) → Refines M.spec raft.now s →
+    ensures { (s : AnyRaft M.Command) → RefinesRaft M.spec raft.now s →
         result ≡ max chain (committed s) }
 {
     match raft.applied() {

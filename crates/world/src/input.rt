@@ -5,7 +5,7 @@ ghost use Rattle.raft_model.specs.Rafts.{Raft as AnyRaft};
 ghost use Rattle.raft_model.specs.Steps.{Propose};
 ghost use Rattle.raft_model.specs.Worlds.{Deliver};
 ghost use Rattle.raft_core.specs.Inputs.{Own};
-ghost use Rattle.raft_core.specs.Steps.{Refines, Takes};
+ghost use Rattle.raft_core.specs.Steps.{RefinesRaft, Takes};
 ghost use Rattle.raft_core.specs.Refusals.{IsRefused};
 ghost use Rattle.group_inputs.specs.Events.{position_of};
 ghost use Rattle.world.specs.Events.{world_event};
@@ -64,13 +64,13 @@ pub(crate) fn actor<M: Machine>(sent: &Frames, event: &RaftEvent<M>) -> Option<S
 fn propose<M: Machine>(raft: &mut Raft<M>, command: M::Command) -> Result<(), Refusal>
     ensures same { (raft.new.me ≡ raft.old.me) × (raft.new.size ≡ raft.old.size) }
     ensures taken { OnOk result ((s : AnyRaft M.Command) (sent : List Frame) →
-        Refines M.spec raft.old s →
+        RefinesRaft M.spec raft.old s →
         Takes M.spec raft.old s (Own (Propose command)) raft.new sent sent) }
     ensures refused { IfErr result (λ cause. (s : AnyRaft M.Command) →
-        Refines M.spec raft.old s →
+        RefinesRaft M.spec raft.old s →
         IsRefused M.spec raft.old.size raft.old.me s (Own (Propose command)) cause) }
     ensures left { IfErr result (λ cause. (s : AnyRaft M.Command) →
-        Refines M.spec raft.old s →
+        RefinesRaft M.spec raft.old s →
         Leaves M.spec raft.old s (Own (Propose command)) cause raft.new) }
     ensures stays { IfErr result (λ cause.
         StaysOrLeft (Own (Propose command)) cause raft.old raft.new) }
@@ -122,16 +122,16 @@ pub(crate) fn hand<M: Machine>(
 ) -> Result<(), Refusal>
     requires { HasFrame sent.old (world_event event) frame.now }
     ensures same { (raft.new.me ≡ raft.old.me) × (raft.new.size ≡ raft.old.size) }
-    ensures taken { OnOk result ((s : AnyRaft M.Command) → Refines M.spec raft.old s →
+    ensures taken { OnOk result ((s : AnyRaft M.Command) → RefinesRaft M.spec raft.old s →
         Takes M.spec raft.old s (handed_by sent.old (world_event event)) raft.new sent.old
         sent.new) }
     ensures unsent { OnErr result (sent.new ≡ sent.old) }
     ensures refused { IfErr result (λ cause. (s : AnyRaft M.Command) →
-        Refines M.spec raft.old s →
+        RefinesRaft M.spec raft.old s →
         IsRefused M.spec raft.old.size raft.old.me s (handed_by sent.old (world_event event))
         cause) }
     ensures left { IfErr result (λ cause. (s : AnyRaft M.Command) →
-        Refines M.spec raft.old s →
+        RefinesRaft M.spec raft.old s →
         Leaves M.spec raft.old s (handed_by sent.old (world_event event)) cause raft.new) }
     ensures stays { IfErr result (λ cause.
         StaysOrLeft (handed_by sent.old (world_event event)) cause raft.old raft.new) }

@@ -1,7 +1,7 @@
 //! Whether servers have room in terms and indexes.
 ghost use Rattle.std.specs.Prelude.{MatchBool};
 ghost use Rattle.raft_model.specs.Rafts.{Raft as AnyRaft};
-ghost use Rattle.raft_core.specs.Steps.{Refines};
+ghost use Rattle.raft_core.specs.Steps.{RefinesRaft};
 ghost use Rattle.group_model.specs.Servers.{Server as AnyServer};
 ghost use Rattle.server.specs.ServerViews.{RefinesServer};
 ghost use Rattle.world.specs.Inner.Room.{RoomAbove, RaftHasRoom, ServerHasRoom, EachHas, OneLacks};
@@ -20,7 +20,7 @@ fn is_room_above(term: Term, last: Index) -> bool
 
 /// Whether a server of the log has room for two more terms and two more entries.
 fn raft_has_room<M: Machine>(raft: &Raft<M>) -> bool
-    ensures { (s : AnyRaft M.Command) → Refines M.spec raft.now s →
+    ensures { (s : AnyRaft M.Command) → RefinesRaft M.spec raft.now s →
         MatchBool result (RaftHasRoom s) (RaftHasRoom s → ⊥) }
 {
     is_room_above(raft.term(), raft.last())
@@ -28,8 +28,8 @@ fn raft_has_room<M: Machine>(raft: &Raft<M>) -> bool
 
 /// Whether each of these servers of the log has.
 pub(crate) fn rafts_have_room<M: Machine>(rafts: &[Raft<M>]) -> bool
-    ensures { MatchBool result (EachHas (Refines M.spec) RaftHasRoom rafts.now)
-        (OneLacks (Refines M.spec) RaftHasRoom rafts.now) }
+    ensures { MatchBool result (EachHas (RefinesRaft M.spec) RaftHasRoom rafts.now)
+        (OneLacks (RefinesRaft M.spec) RaftHasRoom rafts.now) }
 {
     for raft in rafts {
         if !raft_has_room(raft) {

@@ -4,7 +4,7 @@ ghost use Rattle.rows.specs.declared.refusal.Refusal.TheVariants as refusals;
 ghost use Rattle.raft_model.specs.Logs.{MAX};
 ghost use Rattle.raft_model.specs.Rafts.{newcomer};
 ghost use Rattle.raft_model.specs.Worlds.{World};
-ghost use Rattle.raft_core.specs.Steps.{Refines, IsGroupMember};
+ghost use Rattle.raft_core.specs.Steps.{RefinesRaft, IsGroupMember};
 ghost use Rattle.raft_safety.specs.Claims.{IsGreatestCommit};
 ghost use Rattle.raft_progress.specs.Recovery.{HasRoom, everybody};
 ghost use Rattle.world.specs.Events.{world_event, world_events};
@@ -51,7 +51,7 @@ impl<M: Machine> Model for RaftWorld<M> {
 fn newcomer<M: Machine>(alloc: Global, position: usize, n: usize) -> Result<Raft<M>, NoMemory>
     requires { IsGroupMember n position }
     ensures number { IfOk result (λ r. (r.me ≡ position) × (r.size ≡ n)) }
-    ensures server { IfOk result (λ r. Refines M.spec r newcomer) }
+    ensures server { IfOk result (λ r. RefinesRaft M.spec r newcomer) }
 {
     let Some(me) = ServerId::from_position(position) else {
         unreachable!()

@@ -6,7 +6,7 @@ ghost use Rattle.raft_model.specs.Rafts.{Raft as AnyRaft, is_up, is_leader, term
 ghost use Rattle.raft_model.specs.Steps.{receives};
 ghost use Rattle.wire.specs.Messages.{log_body};
 ghost use Rattle.raft_core.specs.Frames.{log_message};
-ghost use Rattle.raft_core.specs.Steps.{Refines, TakesMessage};
+ghost use Rattle.raft_core.specs.Steps.{RefinesRaft, TakesMessage};
 ghost use Rattle.raft_core.specs.Inner.Turns.{TurnTaken, OutOfMemoryTurn};
 ghost use Rattle.raft_core.specs.Inner.Moves.{MovesMessage, MovesFrame, WasRead, base_left};
 ghost use Rattle.raft_core.specs.Inner.Stops.{FrameStops, MessageStops};
@@ -128,21 +128,21 @@ impl<M: Machine> Raft<M> {
         watch: &mut W,
     ) -> Result<(), Refusal>
         ensures same { SameNumber self.old self.new }
-        ensures taken { OnOk result ((s : AnyRaft M.Command) → Refines M.spec self.old s →
+        ensures taken { OnOk result ((s : AnyRaft M.Command) → RefinesRaft M.spec self.old s →
             TakesMessage M.spec self.old s message self.new outbox.old outbox.new) }
-        ensures admitted { OnOk result ((s : AnyRaft M.Command) → Refines M.spec self.old s →
+        ensures admitted { OnOk result ((s : AnyRaft M.Command) → RefinesRaft M.spec self.old s →
             message_refusal self.old.size self.old.me s message ≡ None) }
         ensures kept { OnOk result (KeepsProjected self.old self.new) }
         ensures refused { IfErr result (λ cause. (s : AnyRaft M.Command) →
-            Refines M.spec self.old s →
+            RefinesRaft M.spec self.old s →
             IsMessageRefused self.old.size self.old.me s message cause) }
         ensures left { IfErr result (λ cause. (s : AnyRaft M.Command) →
-            Refines M.spec self.old s →
+            RefinesRaft M.spec self.old s →
             MessageRefusalLeaves M.spec self.old s cause self.new) }
         ensures stays { IfErr result (λ cause. MessageStays cause self.old self.new) }
         ensures unsent { OnErr result (outbox.new ≡ outbox.old) }
         ensures seen { OnOk result ((s next : AnyRaft M.Command) →
-            Refines M.spec self.old s → Refines M.spec self.new next →
+            RefinesRaft M.spec self.old s → RefinesRaft M.spec self.new next →
             SeesStep M.spec W.sees s next watch.old watch.new) }
         ensures unseen { IfErr result (λ cause. RefusalShows cause watch.old watch.new) }
     {

@@ -9,7 +9,7 @@ ghost use Rattle.raft_snapshot.specs.Bases.{state_from};
 ghost use Rattle.raft_core.specs.RaftView.{SameNumber, SameRaft};
 ghost use Rattle.raft_core.specs.Inner.Proposals.{shown_refusal, IsShownRefused};
 ghost use Rattle.raft_core.specs.Inputs.{Own};
-ghost use Rattle.raft_core.specs.Steps.{Refines, Takes};
+ghost use Rattle.raft_core.specs.Steps.{RefinesRaft, Takes};
 ghost use Rattle.raft_core.specs.Refusals.{HidesNothing, IsRefused, IsNotProjected};
 ghost use Rattle.raft_core.specs.Tickets.{IsTicket};
 
@@ -29,7 +29,7 @@ impl<M: Machine> Raft<M> {
     /// memory. No unless it leads.
     pub fn has_projected(&self) -> bool
         ensures value { result ≡ self.now.projected }
-        ensures leads { (s : AnyRaft M.Command) → Refines M.spec self.now s → result ≡ true →
+        ensures leads { (s : AnyRaft M.Command) → RefinesRaft M.spec self.now s → result ≡ true →
             is_leader s.mode ≡ true }
     {
         self.projected.is_some()
@@ -109,19 +109,19 @@ impl<M: Machine> Raft<M> {
         ensures same { SameNumber self.old self.new }
         // Whatever was sent before, nothing is sent.
         ensures taken { OnOk result ((s : AnyRaft M.Command) (sent : List Frame) →
-            Refines M.spec self.old s →
+            RefinesRaft M.spec self.old s →
             Takes M.spec self.old s (Own (Propose command)) self.new sent sent) }
         ensures leads { OnOk result (is_leader self.new.server.mode ≡ true) }
         ensures shown { OnOk result ((self.new.base ≡ self.old.base)
             × (self.new.server ≡ extended self.old.server command)) }
         // It is the last entry of the log, in the leader's own term.
         ensures ticket { IfOk result (λ t. (s : AnyRaft M.Command) →
-            Refines M.spec self.new s → IsTicket s command t.index t.term) }
+            RefinesRaft M.spec self.new s → IsTicket s command t.index t.term) }
         ensures refused { IfErr result (λ cause. (s : AnyRaft M.Command) →
-            Refines M.spec self.old s →
+            RefinesRaft M.spec self.old s →
             IsRefused M.spec self.old.size self.old.me s (Own (Propose command)) cause) }
         ensures unhidden { IfErr result (λ cause. (s : AnyRaft M.Command) →
-            Refines M.spec self.old s →
+            RefinesRaft M.spec self.old s →
             HidesNothing M.spec self.old.size self.old.me s (Own (Propose command)) cause) }
         ensures unchanged { OnErr result (SameRaft self.old self.new) }
         ensures kept { OnErr result (self.old.projected ≡ true → self.new.projected ≡ true) }
@@ -148,10 +148,10 @@ impl<M: Machine> Raft<M> {
     /// none. The server stays as it was on every answer, want of memory among them.
     pub fn projected(&mut self) -> Result<&M, NotProjected>
         ensures value { IfOk result (λ r. (s : AnyRaft M.Command) →
-            Refines M.spec self.old s →
+            RefinesRaft M.spec self.old s →
             (is_leader s.mode ≡ true) × (r.now ≡ state_after M.spec s.log)) }
         ensures refused { IfErr result (λ why. (s : AnyRaft M.Command) →
-            Refines M.spec self.old s → IsNotProjected s why) }
+            RefinesRaft M.spec self.old s → IsNotProjected s why) }
         ensures held { OnErr result (self.old.projected ≡ false) }
         ensures* same { sem 𝓛 (Rests (the_row M.row M.Command.row M.Machine) self.entry (λ n.
             SameRaft self.old n × OnOk result (n.projected ≡ true))) }

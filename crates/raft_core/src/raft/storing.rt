@@ -3,7 +3,7 @@
 ghost use Rattle.std.specs.Prelude.{◌≡◌, ◌≤◌, ◌++◌, length, IfOk, OnOk, OnErr};
 ghost use Rattle.rows.specs.Versions.{newest};
 ghost use Rattle.raft_model.specs.Rafts.{Raft as AnyRaft};
-ghost use Rattle.raft_core.specs.Steps.{Refines, Stores};
+ghost use Rattle.raft_core.specs.Steps.{RefinesRaft, Stores};
 ghost use Rattle.raft_core.specs.StoredParts.{stored_part};
 ghost use Rattle.raft_snapshot.specs.Changes.{log_change};
 ghost use Rattle.raft_snapshot.specs.Texts.{front, stable_text, StableFits};
@@ -19,7 +19,7 @@ impl<M: Machine> Raft<M> {
     pub fn stable(&self) -> Result<Stable<M>, NoMemory>
         ensures shown { IfOk result (λ copy. copy ≡ stored_part self.now) }
         ensures stored { IfOk result (λ copy. (s : AnyRaft M.Command) →
-            Refines M.spec self.now s → Stores M.spec copy s) }
+            RefinesRaft M.spec self.now s → Stores M.spec copy s) }
     {
         self.covered_is_committed();
         let log = self.log.copied(self.alloc)?;

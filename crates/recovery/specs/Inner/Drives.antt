@@ -3,13 +3,13 @@ use Rattle.std.specs.Prelude.{◌≡◌, ℕ, ◌+◌, ◌<◌, ◌⊎◌, Some,
 use Rattle.machine_model.specs.MachineSpec.{MachineSpec}
 use Rattle.raft_model.specs.Rafts.{Raft}
 use Rattle.raft_core.specs.RaftView.{RaftView}
-use Rattle.raft_core.specs.Steps.{Refines}
+use Rattle.raft_core.specs.Steps.{RefinesRaft}
 use Rattle.raft_model.specs.Worlds.{World, Event, Deliver, TimesOut, Beats, Run, happens}
 use Rattle.recovery.specs.declared.calm_event.CalmEvent.{CalmEvent}
 use Rattle.recovery.specs.declared.calm_event.CalmEvent.TheVariants as calms
 use Rattle.recovery.specs.declared.unsettled.Unsettled.{Unsettled}
 use Rattle.recovery.specs.declared.unsettled.Unsettled.TheVariants.{NoQuorum, Exhausted, NoMemory, Crashed}
-use Rattle.recovery.specs.Inner.Spreads.{Came, CanHappen}
+use Rattle.recovery.specs.Inner.Spreads.{Came, CanHappenAt}
 
 -- What such values V are: the moments of their runs, and the events in their traces.
 pub record Drive (V S C : Type 0) : Type 1 where
@@ -51,7 +51,7 @@ module _ {V S C : Type 0} (d : Drive V S C) where
   -- server k is there, and this value represents it
   abbrev pub StandsThere : MachineSpec S C → ℕ → RaftView S C → V → Type 0
   StandsThere m k h view =
-      Ever view (λ w. (s : Raft C) × (slice_get w.servers k ≡ Some s) × Refines m h s)
+      Ever view (λ w. (s : Raft C) × (slice_get w.servers k ≡ Some s) × RefinesRaft m h s)
 
   -- the group has no such server
   abbrev pub NoneThere : ℕ → V → Type 0
@@ -124,7 +124,7 @@ module _ {V S C : Type 0} (d : Drive V S C) where
 
   -- it can happen, and this server takes it
   abbrev pub CanGo : MachineSpec S C → CalmEvent → ℕ → d.Moment → Type 0
-  CanGo m event who w = (f : Event C) × IsOfLog w event f × CanHappen m f who (d.log w)
+  CanGo m event who w = (f : Event C) × IsOfLog w event f × CanHappenAt m f who (d.log w)
 
   -- it happened
   abbrev pub HasGone : CalmEvent → List d.Own → d.Moment → d.Moment → Type 0

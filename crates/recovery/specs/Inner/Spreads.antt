@@ -165,7 +165,7 @@ pub record Came {S C : Type 0} (m : MachineSpec S C) (i : ℕ) (taken : List (Ev
   pub way : Way m i w taken timeouts beats v
 
 -- the event can happen, and this server takes it; it is no restart
-pub record CanHappen {S C : Type 0} (m : MachineSpec S C) (e : Event C) (who : ℕ) (w : World C) : Type 0 where
+pub record CanHappenAt {S C : Type 0} (m : MachineSpec S C) (e : Event C) (who : ℕ) (w : World C) : Type 0 where
   pub next : World C
   pub happens : happens m w e ≡ Ok next
   pub actor : acting_server m w e ≡ Some who

@@ -1,7 +1,7 @@
 //! Clients that ask.
 ghost use Rattle.std.specs.Prelude.{◌≡◌, true, OnOk, OnErr, IfOk};
 ghost use Rattle.raft_model.specs.Rafts.{Raft as AnyRaft, is_up, is_leader};
-ghost use Rattle.raft_core.specs.Steps.{Refines};
+ghost use Rattle.raft_core.specs.Steps.{RefinesRaft};
 ghost use Rattle.rows.specs.declared.command.Command.{Command};
 ghost use Rattle.fsm_model.specs.ClusterMachine.{cluster_spec};
 ghost use Rattle.raft_core.specs.RaftView.{SameNumber, SameRaft};
@@ -36,7 +36,7 @@ fn node_of(client: ClientId) -> NodeId
 fn is_taken_already(raft: &mut Raft<Cluster>, command: &Command) -> Result<bool, NoMemory>
     requires { is_leader raft.old.server.mode ≡ true }
     ensures value { IfOk result (λ b. (s : AnyRaft Command) →
-        Refines cluster_spec raft.old s →
+        RefinesRaft cluster_spec raft.old s →
         b ≡ is_taken_already (projected_state s) command.now) }
     ensures same { SameRaft raft.old raft.new }
 {

@@ -4,7 +4,7 @@ ghost use Rattle.raft_core.specs.RaftView.{SameNumber};
 ghost use Rattle.rows.specs.declared.refusal.Refusal.TheVariants as refusals;
 ghost use Rattle.rows.specs.declared.worker.WorkerRequest.TheVariants as requests;
 ghost use Rattle.raft_model.specs.Rafts.{Raft as AnyRaft, is_up};
-ghost use Rattle.raft_core.specs.Steps.{Refines};
+ghost use Rattle.raft_core.specs.Steps.{RefinesRaft};
 ghost use Rattle.rows.specs.declared.command.Command.{Command};
 ghost use Rattle.fsm_model.specs.ClusterMachine.{cluster_spec};
 ghost use Rattle.group_model.specs.Desks.{applied_state};
@@ -26,10 +26,10 @@ use rows::{
 fn submit(raft: &Raft<Cluster>, desk: &mut Desk, from: ServerId, plan: Plan) -> Result<(), Refusal>
     requires { is_up raft.now.server.mode ≡ true }
     ensures ok { IfOk result (λ u. (s : AnyRaft Command) →
-        Refines cluster_spec raft.now s →
+        RefinesRaft cluster_spec raft.now s →
         at_open (on_submit from (applied_state s) plan) desk.old ≡ Ok (u, desk.new)) }
     ensures err { IfErr result (λ e. (s : AnyRaft Command) →
-        Refines cluster_spec raft.now s → e ≢ refusals.NoMemory →
+        RefinesRaft cluster_spec raft.now s → e ≢ refusals.NoMemory →
         at_open (on_submit from (applied_state s) plan) desk.old ≡ Err e) }
     ensures left { OnErr result (desk.new ≡ desk.old) }
 {

@@ -1,7 +1,7 @@
 //! Turns of the desk.
 ghost use Rattle.std.specs.Prelude.{◌≡◌, ◌⊎◌, true, is_some, option_map, None, Ok, Err, OnOk, OnErr, IfOk, IfErr, IfSome};
 ghost use Rattle.raft_model.specs.Rafts.{Raft as AnyRaft, is_up, is_leader};
-ghost use Rattle.raft_core.specs.Steps.{Refines};
+ghost use Rattle.raft_core.specs.Steps.{RefinesRaft};
 ghost use Rattle.rows.specs.declared.command.Command.{Command};
 ghost use Rattle.fsm_model.specs.ClusterMachine.{cluster_spec};
 ghost use Rattle.fsm_model.specs.Words.{State};
@@ -30,7 +30,7 @@ fn judge_first(raft: &mut Raft<Cluster>, desk: &mut Desk) -> Result<Option<Judge
     requires is_open { is_some desk.old ≡ true }
     ensures same { SameRaft raft.old raft.new }
     ensures turn { IfOk result (λ j. (s : AnyRaft Command) →
-        Refines cluster_spec raft.old s →
+        RefinesRaft cluster_spec raft.old s →
         at_open (on_plan_turn (projected_state s)) desk.old
         ≡ Ok (option_map judged_by j, desk.new)) }
     ensures whole { IfOk result (λ j. (whole : State)
@@ -63,10 +63,10 @@ fn expire_step(
 ) -> Result<Command, Refusal>
     requires { is_up raft.now.server.mode ≡ true }
     ensures value { IfOk result (λ c. (s : AnyRaft Command) →
-        Refines cluster_spec raft.now s →
+        RefinesRaft cluster_spec raft.now s →
         if_open (on_expire node beats (applied_state s)) desk.now ≡ Ok c) }
     ensures err { IfErr result (λ e. (s : AnyRaft Command) →
-        Refines cluster_spec raft.now s →
+        RefinesRaft cluster_spec raft.now s →
         if_open (on_expire node beats (applied_state s)) desk.now ≡ Err e) }
 {
     let Some(applied) = raft.machine() else {
@@ -85,9 +85,9 @@ fn drain_step(
     requires is_open { is_some desk.now ≡ true }
     ensures same { SameRaft raft.old raft.new }
     ensures value { let d = group_desk desk.now in IfOk result (λ c. (s : AnyRaft Command) →
-        Refines cluster_spec raft.old s → drain_at s d node ≡ Ok (proposes_if_any d c)) }
+        RefinesRaft cluster_spec raft.old s → drain_at s d node ≡ Ok (proposes_if_any d c)) }
     ensures err { let d = group_desk desk.now in IfErr result (λ e. (s : AnyRaft Command) →
-        Refines cluster_spec raft.old s →
+        RefinesRaft cluster_spec raft.old s →
         (e ≡ refusals.NoMemory) ⊎ (drain_at s d node ≡ Err e)) }
 {
     match raft.projected() {
@@ -102,7 +102,7 @@ fn first_freed(raft: &mut Raft<Cluster>, desk: &Desk) -> Result<Option<EvalId>, 
     requires { is_leader raft.old.server.mode ≡ true }
     ensures same { SameRaft raft.old raft.new }
     ensures value { IfOk result (λ id. (s : AnyRaft Command) →
-        Refines cluster_spec raft.old s → IsOverBlocked (applied_state s) desk.now →
+        RefinesRaft cluster_spec raft.old s → IsOverBlocked (applied_state s) desk.now →
         id ≡ option_map eval_id (first_due (applied_state s) (projected_state s))) }
 {
     match raft.projected() {
@@ -120,7 +120,8 @@ fn first_reaped(raft: &mut Raft<Cluster>, desk: &Desk) -> Result<Option<EvalId>,
     requires is_open { is_some desk.now ≡ true }
     ensures same { SameRaft raft.old raft.new }
     ensures value { IfOk result (λ id. (s : AnyRaft Command) →
-        Refines cluster_spec raft.old s → if_open (on_reap (projected_state s)) desk.now ≡ Ok id) }
+        RefinesRaft cluster_spec raft.old s →
+        if_open (on_reap (projected_state s)) desk.now ≡ Ok id) }
 {
     match raft.projected() {
         Ok(whole) => match desk.reap(whole) {

@@ -9,7 +9,7 @@ use Rattle.raft_model.specs.Steps.{Input}
 use Rattle.raft_model.specs.Worlds.{Event, Crashes, IsEvent}
 use Rattle.raft_core.specs.RaftView.{RaftView}
 use Rattle.raft_core.specs.Inputs.{Reads}
-use Rattle.raft_core.specs.Steps.{Refines, Takes}
+use Rattle.raft_core.specs.Steps.{RefinesRaft, Takes}
 use Rattle.raft_core.specs.Refusals.{MayEndOutOfMemory, refusal}
 use Rattle.world.specs.declared.done.Done.{Done}
 use Rattle.world.specs.declared.done.Done.TheVariants.{Taken, Crashed}
@@ -29,15 +29,15 @@ module _ {S C : Type 0} (m : MachineSpec S C) (raft : RaftView S C) (past : Hist
   -- the server took it
   pub record PartTaken (after : RaftView S C) (now : HistoryView C) : Type 0 where
     pub event : IsEvent m e
-    pub taken : (s : Raft C) → Refines m raft s → Takes m raft s (handed_by past.sent e) after past.sent now.sent
+    pub taken : (s : Raft C) → RefinesRaft m raft s → Takes m raft s (handed_by past.sent e) after past.sent now.sent
     pub trace : now.trace ≡ past.trace ++ e ∷ []
-    pub chain : (s : Raft C) → Refines m after s → now.chain ≡ max past.chain (committed s)
+    pub chain : (s : Raft C) → RefinesRaft m after s → now.chain ≡ max past.chain (committed s)
 
   -- it found no memory, and crashed
   pub record PartCrashed (i : ℕ) (after : RaftView S C) (now : HistoryView C) : Type 0 where
     pub other : is_restart e ≡ false
-    pub lacks : (s : Raft C) → Refines m raft s → MayEndOutOfMemory s.mode (handed_by past.sent e)
-    pub fell : (s : Raft C) → Refines m raft s → (is_up s.mode ≡ true) × Refines m after (crashed s)
+    pub lacks : (s : Raft C) → RefinesRaft m raft s → MayEndOutOfMemory s.mode (handed_by past.sent e)
+    pub fell : (s : Raft C) → RefinesRaft m raft s → (is_up s.mode ≡ true) × RefinesRaft m after (crashed s)
     pub sent : now.sent ≡ past.sent
     pub trace : now.trace ≡ past.trace ++ Crashes i ∷ []
     pub chain : now.chain ≡ past.chain
@@ -45,7 +45,7 @@ module _ {S C : Type 0} (m : MachineSpec S C) (raft : RaftView S C) (past : Hist
   -- it found no memory to start again
   pub record PartStays (after : RaftView S C) (now : HistoryView C) : Type 0 where
     pub restart : is_restart e ≡ true
-    pub down : (s : Raft C) → Refines m raft s → is_up s.mode ≡ false
+    pub down : (s : Raft C) → RefinesRaft m raft s → is_up s.mode ≡ false
     pub same_raft : after ≡ raft
     pub same_past : now ≡ past
 
@@ -53,7 +53,7 @@ module _ {S C : Type 0} (m : MachineSpec S C) (raft : RaftView S C) (past : Hist
   abbrev pub IsPartRefused : Refusal → Type 0
   IsPartRefused refusals.NoMemory = Unit {0}
   IsPartRefused cause =
-      (s : Raft C) → Refines m raft s → refusal m raft.size raft.me s (handed_by past.sent e) ≡ Some cause
+      (s : Raft C) → RefinesRaft m raft s → refusal m raft.size raft.me s (handed_by past.sent e) ≡ Some cause
 
   abbrev pub PartDone : ℕ → Result Done Refusal → RaftView S C → HistoryView C → Type 0
   PartDone i (Ok Taken) after now = PartTaken after now
