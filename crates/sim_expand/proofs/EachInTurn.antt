@@ -1,7 +1,7 @@
 -- What comes of each of a list, one by one.
-use Rattle.std.proofs.Common.{◌≡◌, ◌∙◌, ◌<◌, ◌++◌, ◌∷◌, ℕ, zero, suc, List, [], ap, ap₂, append_assoc, arith, get_or, length, refl, sym, take}
+use Rattle.std.proofs.Common.{◌≡◌, ◌∙◌, ◌<◌, ◌++◌, ◌∷◌, ℕ, zero, suc, List, [], ap, ap₂, append_assoc, arith, get_or, length, refl, subst, sym, take}
 use Rattle.std.proofs.lemmas.List.{append-nil}
-use Rattle.sim_expand.specs.EachInTurn.{OfEach}
+use Rattle.sim_expand.specs.EachInTurn.{OfEach, OfEachBehind}
 
 module _ {A B : Type 0} (One : A → List B → Type 0) where
   pub of_one_more : (xs : List A) (x : A) (all own : List B) → OfEach One xs all → One x own → OfEach One (xs ++ x ∷ []) (all ++ own)
@@ -36,3 +36,17 @@ module _ {A B : Type 0} (One : A → List B → Type 0) where
         let parts : first.0 ++ ((first.1 ++ own) ++ rest.0) ≡ ((first.0 ++ first.1) ++ own) ++ rest.0 =
         sym (append_assoc first.0 (first.1 ++ own) rest.0) ∙ ap (λ s. s ++ rest.0) (sym (append_assoc first.0 first.1 own)) in
         (rest.0, are.2 ∙ whole ∙ parts ∙ ap (λ s. (s ++ own) ++ rest.0) (sym first.2))
+
+-- one more, which rests on all that came before
+pub of_one_more_behind : {A B : Type 0} (One : List B → A → List B → Type 0) (before : List B) (xs : List A) (x : A) (all own : List B)
+    → OfEachBehind One before xs all → One (before ++ all) x own → OfEachBehind One before (xs ++ x ∷ []) (all ++ own)
+of_one_more_behind One before [] x all own none is =
+    (own, [], ap (λ s. s ++ own) none ∙ sym (append-nil own), subst (λ s. One s x own) (ap (λ s. before ++ s) none ∙ append-nil before) is, refl)
+of_one_more_behind One before (y ∷ xs) x all own are is =
+    let behind : before ++ all ≡ (before ++ are.0) ++ are.1 = ap (λ s. before ++ s) are.2 ∙ sym (append_assoc before are.0 are.1) in (
+      are.0,
+      are.1 ++ own,
+      ap (λ s. s ++ own) are.2 ∙ append_assoc are.0 are.1 own,
+      are.3,
+      of_one_more_behind One (before ++ are.0) xs x are.1 own are.4 (subst (λ s. One s x own) behind is),
+    )

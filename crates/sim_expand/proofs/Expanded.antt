@@ -16,10 +16,10 @@ use Rattle.sim_expand.specs.ShortSteps.{AsItStands, Settles, Elects, Short, most
 use Rattle.sim_expand.specs.Stops.{IsGoodShort, WhyNotExpanded}
 
 -- no step comes to more lines than it may
-pub lines_within : (step : Short) (own : List (List ℕ)) → LinesOf step own → length own ≤ most_lines step
-lines_within (AsItStands line) own is = let one : length own ≡ 1 = ap length is in omega (arith, one)
-lines_within (Settles count) own few = few
-lines_within Elects own are =
+pub lines_within : (settings : Settings) (nodes : List NodeSpec) (before : List (List ℕ)) (step : Short) (own : List (List ℕ)) → LinesOf settings nodes before step own → length own ≤ most_lines step
+lines_within settings nodes before (AsItStands line) own is = let one : length own ≡ 1 = ap length is in omega (arith, one)
+lines_within settings nodes before (Settles count) own few = few
+lines_within settings nodes before Elects own are =
     let few : length own ≡ length (take most_elected are.lines) = ap length are.first in
     let cut = length-take most_elected are.lines in
     let least = min-le_left most_elected (length are.lines) in

@@ -6,3 +6,9 @@ abbrev pub OfEach : {A B : Type 0} → (A → List B → Type 0) → List A → 
 OfEach One [] all = all ≡ []
 OfEach {A} {B} One (x ∷ xs) all =
     (own : List B) × (others : List B) × (all ≡ own ++ others) × One x own × OfEach One xs others
+
+-- the same, where what comes of each rests on what came before it too
+abbrev pub OfEachBehind : {A B : Type 0} → (List B → A → List B → Type 0) → List B → List A → List B → Type 0
+OfEachBehind One before [] all = all ≡ []
+OfEachBehind {A} {B} One before (x ∷ xs) all =
+    (own : List B) × (others : List B) × (all ≡ own ++ others) × One before x own × OfEachBehind One (before ++ own) xs others

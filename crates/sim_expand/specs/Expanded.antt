@@ -6,7 +6,6 @@ use Rattle.sim_play.specs.declared.play.Play.{Play}
 use Rattle.sim_play.specs.Played.{LinesPlayed, Refused}
 use Rattle.sim_play.specs.PlaySteps.{StepRefused, StepTaken}
 use Rattle.sim_play.specs.Plays.{IsNewPlay}
-use Rattle.group_model.specs.Worlds.{Event}
 use Rattle.sim_recovery.specs.Recoveries.{IsElection}
 use Rattle.sim_expand.specs.ShortSteps.{Short, AsItStands, Settles, Elects, most_elected, most_lines}
 
@@ -19,19 +18,18 @@ pub record AreTaken (settings : Settings) (nodes : List NodeSpec) (lines : List 
   pub played : LinesPlayed StepTaken StepRefused lines first refused play
   pub found : play.lacked ≡ false
 
--- the first lines of those by which a group of some run settles, whose servers that are up come to
--- follow one of them; all, where they are few enough
-pub record AreElecting (own : List (List ℕ)) : Type 0 where
-  pub servers : ℕ
-  pub nodes : List NodeSpec
-  pub events : List Event
+-- the first lines of those by which the group settles that stands so after the lines before: its
+-- servers that are up come to follow one of them; all, where they are few enough
+pub record AreElecting (settings : Settings) (nodes : List NodeSpec) (before own : List (List ℕ)) : Type 0 where
+  pub play : Play
+  pub stands : AreTaken settings nodes before play
   pub lines : List (List ℕ)
-  pub election : IsElection servers nodes events lines
+  pub election : let world = play.world in IsElection settings.servers nodes world.trace lines
   pub first : own ≡ take most_elected lines
 
 -- the line of a step that is taken as it stands, and no other; of a `settle` any lines, but not more
--- than it comes to at most; and of a `settle elect` those by which a group settles
-abbrev pub LinesOf : Short → List (List ℕ) → Type 0
-LinesOf (AsItStands line) own = own ≡ line ∷ []
-LinesOf (Settles count) own = length own ≤ most_lines (Settles count)
-LinesOf Elects own = AreElecting own
+-- than it comes to at most; and of a `settle elect` those by which the group settles then
+abbrev pub LinesOf : Settings → List NodeSpec → (before : List (List ℕ)) → Short → List (List ℕ) → Type 0
+LinesOf settings nodes before (AsItStands line) own = own ≡ line ∷ []
+LinesOf settings nodes before (Settles count) own = length own ≤ most_lines (Settles count)
+LinesOf settings nodes before Elects own = AreElecting settings nodes before own

@@ -5,7 +5,7 @@ ghost use Rattle.std.specs.List.{All};
 ghost use Rattle.world.specs.GroupSteps.{WhyNoGroup};
 ghost use Rattle.sim_scenario.specs.Complaints.{IsStepLine};
 ghost use Rattle.sim_play.specs.declared.play.Play.{Play};
-ghost use Rattle.sim_expand.specs.EachInTurn.{OfEach};
+ghost use Rattle.sim_expand.specs.EachInTurn.{OfEachBehind};
 ghost use Rattle.sim_expand.specs.Expanded.{AreElecting, AreTaken, LinesOf};
 ghost use Rattle.sim_expand.specs.Inner.Taking.{StandsAsTaken, TakesIf, TakesMore};
 ghost use Rattle.sim_expand.specs.Inner.Taking.{TakesUpTo, WhyNoLine, WhyNoShort, WhyNoMore};
@@ -54,7 +54,8 @@ pub fn expanded(
     steps: &[ShortStep],
 ) -> Result<Vec<String>, Refusal>
     ensures order { IfOk result (λ lines.
-        OfEach LinesOf (map short_step steps.now) (map string_bytes lines.items)) }
+        OfEachBehind (LinesOf settings nodes.now) [] (map short_step steps.now)
+        (map string_bytes lines.items)) }
     ensures taken { IfOk result (λ lines. (play : Play)
         × AreTaken settings nodes.now (map string_bytes lines.items) play) }
     ensures most { IfOk result (λ lines. length lines.items ≤ MOST) }
@@ -119,7 +120,9 @@ impl<'s> Taken<'s> {
 
     fn take(&mut self, step: &ShortStep) -> Result<(), Refusal>
         requires { StandsAsTaken self.old }
-        ensures ok { OnOk result ((own : List (List ℕ)) × LinesOf (short_step step.now) own
+        ensures ok { OnOk result ((own : List (List ℕ))
+            × LinesOf self.old.settings self.old.nodes.now (map string_bytes self.old.lines.items)
+            (short_step step.now) own
             × TakesMore self.old own self.new) }
         ensures refused { IfErr result (WhyNoShort (short_step step.now) self.old) }
     {
@@ -151,7 +154,9 @@ impl<'s> Taken<'s> {
     // Takes the steps by which the group settles, who is down staying so.
     fn elect(&mut self) -> Result<(), Refusal>
         requires { StandsAsTaken self.old }
-        ensures ok { OnOk result ((own : List (List ℕ)) × AreElecting own
+        ensures ok { OnOk result ((own : List (List ℕ))
+            × AreElecting self.old.settings self.old.nodes.now
+            (map string_bytes self.old.lines.items) own
             × TakesMore self.old own self.new) }
         ensures refused { IfErr result (WhyNoMore most_elected self.old) }
     {

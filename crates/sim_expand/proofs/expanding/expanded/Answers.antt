@@ -2,7 +2,7 @@ use Rattle.std.proofs.Common.{◌≡◌, ◌∙◌, ◌+◌, ◌<◌, ◌++◌, 
 use Rattle.std.proofs.lemmas.List.{map-append, take_more}
 use Rattle.sim_expand.specs.Expanded.{LinesOf}
 use Rattle.sim_expand.specs.ShortSteps.{most_lines, short_step}
-use Rattle.sim_expand.proofs.EachInTurn.{of_one_more}
+use Rattle.sim_expand.proofs.EachInTurn.{of_one_more_behind}
 use Rattle.sim_expand.proofs.Expanded.{lines_within, most_with_next, no_group, no_step}
 use Rattle.sim_expand.proofs.Taking.{reached}
 use Rattle.sim_expand.proofs.expanding.expanded.Goals as goal
@@ -16,16 +16,18 @@ loop-step-preserved c =
     let was = c.loop-step.invariant in
     let own = c.in_ok-take.ensures.ok in
     let taken : take (i + 1) steps ≡ take i steps ++ step ∷ [] = take_more steps i step inside ∙ ap (λ x. take i steps ++ x ∷ []) (sym c.step-item.is) in
-    let more = reached (most_lines (short_step step)) c.loop-step.taken c.take.new.self (own.0, lines_within (short_step step) own.0 own.1, own.2) in
+    let more = reached (most_lines (short_step step)) c.loop-step.taken c.take.new.self (own.0, lines_within c.args.settings c.args.nodes.now before (short_step step) own.0 of_step, own.2) in
     let most = most_with_next steps i step inside c.step-item.is in
     let few = was.few in
+    let before = map string_bytes c.loop-step.taken.lines.items in
+    let of_step : LinesOf c.args.settings c.args.nodes.now before (short_step step) own.0 = rw was.nodes at (rw was.settings at own.1) in
     record {
       settings = own.2.settings ∙ was.settings;
       nodes = own.2.nodes ∙ was.nodes;
       stands = own.2.stands;
       few = omega (arith, few, more, most);
       order = rw (taken, map-append short_step (take i steps) (step ∷ []), own.2.lines)
-          (of_one_more LinesOf (map short_step (take i steps)) (short_step step) (map string_bytes c.loop-step.taken.lines.items) own.0 was.order own.1);
+          (of_one_more_behind (LinesOf c.args.settings c.args.nodes.now) [] (map short_step (take i steps)) (short_step step) before own.0 was.order of_step);
     }
 
 pub returns-in_err-taken-clause-refused : goal.returns-in_err-taken-clause-refused

@@ -1,5 +1,5 @@
-use Rattle.std.proofs.Common.{◌≡◌, ◌≤◌, length, map, string_bytes, sum_by, take}
-use Rattle.sim_expand.specs.EachInTurn.{OfEach}
+use Rattle.std.proofs.Common.{◌≡◌, ◌≤◌, [], length, map, string_bytes, sum_by, take}
+use Rattle.sim_expand.specs.EachInTurn.{OfEachBehind}
 use Rattle.sim_expand.specs.Expanded.{LinesOf}
 use Rattle.sim_expand.specs.Inner.Taking.{StandsAsTaken}
 use Rattle.sim_expand.specs.ShortSteps.{most_lines, short_step}
@@ -12,5 +12,5 @@ invariant-loop-step l = record {
   nodes : l.taken.nodes.now ≡ l.nodes;
   stands : StandsAsTaken l.taken;
   few : length l.taken.lines.items ≤ sum_by most_lines (map short_step (take l.step-index l.steps));
-  order : OfEach LinesOf (map short_step (take l.step-index l.steps)) (map string_bytes l.taken.lines.items);
+  order : OfEachBehind (LinesOf l.fn.settings l.nodes) [] (map short_step (take l.step-index l.steps)) (map string_bytes l.taken.lines.items);
 }
