@@ -16,11 +16,11 @@ loop-step-preserved c =
     let was = c.loop-step.invariant in
     let own = c.in_ok-take.ensures.ok in
     let taken : take (i + 1) steps ≡ take i steps ++ step ∷ [] = take_more steps i step inside ∙ ap (λ x. take i steps ++ x ∷ []) (sym c.step-item.is) in
+    let before = map string_bytes c.loop-step.taken.lines.items in
+    let of_step : LinesOf c.args.settings c.args.nodes.now before (short_step step) own.0 = rw was.nodes at (rw was.settings at own.1) in
     let more = reached (most_lines (short_step step)) c.loop-step.taken c.take.new.self (own.0, lines_within c.args.settings c.args.nodes.now before (short_step step) own.0 of_step, own.2) in
     let most = most_with_next steps i step inside c.step-item.is in
     let few = was.few in
-    let before = map string_bytes c.loop-step.taken.lines.items in
-    let of_step : LinesOf c.args.settings c.args.nodes.now before (short_step step) own.0 = rw was.nodes at (rw was.settings at own.1) in
     record {
       settings = own.2.settings ∙ was.settings;
       nodes = own.2.nodes ∙ was.nodes;

@@ -19,7 +19,7 @@ pub returns-in-Ok-clause-ok : goal.returns-in-Ok-clause-ok
 returns-in-Ok-clause-ok c =
     let lines = c.in-Ok.lines.items in
     let first = ap (map string_bytes) (c.first_elected.ensures ∙ ap (take 10000) c.deref.ensures.value) ∙ sym (take-map string_bytes 10000 lines) in
-    let is = rw c.trace.ensures.value at c.in-Ok.ensures.lines in
+    let is = rw c.from-servers.ensures at (rw c.trace.ensures.value at c.in-Ok.ensures.lines) in
     and_so c.take_lines.result c.take_lines.ensures.ok (λ more. (map string_bytes c.first_elected.result.now, electing c.args.self.now (map string_bytes lines) _ c.requires is first, more))
 
 pub returns-in-Ok-clause-refused : goal.returns-in-Ok-clause-refused
