@@ -12,7 +12,7 @@ returns-clause-plain c =
       short = c.in_ok-short.short;
       read = c.in_ok-short.ensures.ok;
       lines = lines;
-      taken = record { order = rw c.deref-2.ensures.value at c.in_ok-lines.ensures.order; play = run.0; taken = run.1 };
+      taken = record { order = rw (c.deref.ensures.value, c.deref-2.ensures.value) at c.in_ok-lines.ensures.order; play = run.0; taken = run.1 };
       good = played_steps StepTaken StepRefused lines run.1.first run.1.refused run.0 run.1.played;
       plain = rw (c.deref-3.ensures.value, c.deref-4.ensures.value) at c.in_ok-form.ensures.ok;
       is = rw (c.deref-3.ensures.value, c.deref-4.ensures.value) at c.in_ok-form.ensures.form;
@@ -32,7 +32,7 @@ returns-in_err-form-clause-refused c =
     let same : c.from_residual-in_err-form.result ≡ Err c.in_err-form.field-0.0 = search rules in
     let run = rw c.deref.ensures.value at c.in_ok-lines.ensures.taken in
     let taken : TakesLines c.in_ok-short.short (map string_bytes c.in_ok-lines.lines.items) = record {
-      order = rw c.deref-2.ensures.value at c.in_ok-lines.ensures.order;
+      order = rw (c.deref.ensures.value, c.deref-2.ensures.value) at c.in_ok-lines.ensures.order;
       play = run.0;
       taken = run.1;
     } in
