@@ -1,6 +1,5 @@
 -- What is told of a way back, of a run's first events.
-use Rattle.std.proofs.Common.{◌≡◌, ◌∙◌, ℕ, List, None, Some, Result, Ok, Err, IfOk, String, ap, length, map, refl, string_bytes, subst, sym, take}
-use Rattle.std.specs.declared.alloc.Global.{Global}
+use Rattle.std.proofs.Common.{◌≡◌, ◌∙◌, ℕ, List, None, Some, ap, length, map, string_bytes, subst, sym, take}
 use Rattle.std.proofs.lemmas.List.{length-map, take-map}
 use Rattle.group_inputs.specs.declared.event.Event.{Event as GroupEvent}
 use Rattle.group_inputs.specs.Events.{group_event, group_events}

@@ -1,5 +1,5 @@
 -- Groups after more and more events of a run.
-use Rattle.std.proofs.Common.{◌≡◌, ◌∙◌, ◌+◌, ◌<◌, ◌++◌, ◌∷◌, ◌==◌, ◌%◌, ℕ, Bool, true, false, List, [], Option, ap, append_assoc, arith, cond, drop, filter, get_or, length, map, refl, subst, sym, take}
+use Rattle.std.proofs.Common.{◌≡◌, ◌∙◌, ◌+◌, ◌<◌, ◌++◌, ◌∷◌, ◌==◌, ◌%◌, ℕ, Bool, true, false, List, [], Option, ap, arith, cond, filter, get_or, length, map, refl, subst, sym, take}
 use Rattle.std.specs.List.{AllZip, range_with_len}
 use Rattle.std.proofs.lemmas.List.{map-append, take_more}
 use Rattle.std.proofs.lemmas.List.FromFn.{map-range_with_len_more}

@@ -1,5 +1,5 @@
 -- The events of a way back: each is one of four kinds, and has a line.
-use Rattle.std.proofs.Common.{Err, IfOk, Ok, OnOk, Result, String, Vec, string_bytes, ◌≡◌, ◌∙◌, ◌+◌, ◌<◌, ◌^◌, ℕ, suc, Bool, true, false, List, [], ◌∷◌, ◌++◌, ap, arith, cond, count_by, length, map, refl, subst, sym}
+use Rattle.std.proofs.Common.{Err, IfOk, Ok, OnOk, Result, String, Vec, string_bytes, ◌≡◌, ◌∙◌, ◌+◌, ◌<◌, ◌^◌, ℕ, List, [], ◌∷◌, ◌++◌, ap, arith, cond, count_by, length, map, refl, subst, sym}
 use Rattle.std.specs.List.{AllByRecursion}
 use Rattle.std.proofs.lemmas.List.Sums.{sum_by-cons}
 use Rattle.std.specs.declared.alloc.Global.{Global}

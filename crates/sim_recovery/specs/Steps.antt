@@ -1,5 +1,5 @@
 -- The events by which a group is brought back.
-use Rattle.std.specs.Prelude.{◌≡◌, ◌<◌, ◌^◌, ℕ, suc, Bool, true, false, List, count_by, length}
+use Rattle.std.specs.Prelude.{◌≡◌, Bool, true, false, List, count_by, length}
 use Rattle.group_model.specs.Inputs as inputs
 use Rattle.group_model.specs.Worlds.{Event, Deliver, AtServer, AtClient}
 use Rattle.sim_recovery.specs.declared.counts.Counts.{Counts}

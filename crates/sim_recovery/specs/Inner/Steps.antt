@@ -1,5 +1,5 @@
 -- The events of a way back.
-use Rattle.std.specs.Prelude.{◌<◌, ◌^◌, ℕ, suc}
+use Rattle.std.specs.Prelude.{◌<◌, ◌^◌, suc}
 use Rattle.group_model.specs.Inputs as inputs
 use Rattle.group_model.specs.Worlds.{Event, Deliver, AtServer, AtClient}
 

@@ -1,5 +1,3 @@
-use Rattle.std.proofs.Common.{◌≡◌, refl}
-use Rattle.recovery.specs.GroupRestarting.{AreGroupSettled}
 use Rattle.sim_recovery.proofs.WaySteps.{plain_all}
 use Rattle.sim_recovery.proofs.recovering.back_from.Goals as goal
 

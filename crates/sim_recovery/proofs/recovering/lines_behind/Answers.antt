@@ -1,7 +1,5 @@
-use Rattle.std.proofs.Common.{◌≡◌, ◌∙◌, ◌<◌, ◌^◌, ap, arith, length, rules, subst, sym}
+use Rattle.std.proofs.Common.{◌<◌, ◌^◌, length, rules, subst, sym}
 use Rattle.std.specs.List.{AllByRecursion}
-use Rattle.std.proofs.lemmas.Result.{IfOk-weaker}
-use Rattle.event_texts.specs.EventLines.{HasLine, event_line}
 use Rattle.sim_recovery.specs.Inner.Steps.{IsStep}
 use Rattle.sim_recovery.proofs.WaySteps.{lines_are, steps_behind}
 use Rattle.sim_recovery.proofs.recovering.lines_behind.Goals as goal

@@ -1,4 +1,4 @@
-use Rattle.std.proofs.Common.{◌≡◌, ◌∙◌, ◌+◌, ap, count_by, length, subst}
+use Rattle.std.proofs.Common.{subst}
 use Rattle.sim_recovery.specs.Steps.{AreCounts}
 use Rattle.sim_recovery.proofs.WaySteps.{way_of}
 use Rattle.sim_recovery.proofs.recovering.recovery_of.Goals as goal

@@ -1,4 +1,4 @@
-use Rattle.std.proofs.Common.{◌≡◌, ◌∙◌, ◌<◌, ◌++◌, ◌∷◌, [], List, ℕ, ap, arith, length, map, rules, string_bytes, subst, sym, take}
+use Rattle.std.proofs.Common.{◌∙◌, ◌<◌, ◌++◌, ◌∷◌, [], List, ℕ, ap, arith, length, map, rules, string_bytes, subst, sym, take}
 use Rattle.std.proofs.lemmas.List.{get_or-map, length-map, map-append}
 use Rattle.group_inputs.specs.Events.{group_event, group_events}
 use Rattle.event_texts.specs.EventLines.{HasLine, event_line}

@@ -1,4 +1,4 @@
-use Rattle.std.proofs.Common.{◌≡◌, ◌≤◌, ◌∙◌, ap, arith, length, map, rules, string_bytes, subst, sym, take}
+use Rattle.std.proofs.Common.{◌≤◌, ◌∙◌, ap, arith, length, map, string_bytes, subst, sym, take}
 use Rattle.std.specs.List.{All}
 use Rattle.std.proofs.Math.Nat.{min-le_left}
 use Rattle.std.proofs.lemmas.List.{length-take, take-map}
