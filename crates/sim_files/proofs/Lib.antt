@@ -4,3 +4,4 @@ pub mod Refusals
 pub mod Stages
 pub mod Replays
 pub mod Apart
+pub mod ReadSteps

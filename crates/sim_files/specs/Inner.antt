@@ -3,3 +3,4 @@ pub mod Faults
 pub mod Files
 pub mod Printed
 pub mod Replayed
+pub mod Steps

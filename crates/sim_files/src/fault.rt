@@ -6,6 +6,7 @@ ghost use Rattle.sim_files.specs.declared.fault.Fault.TheVariants as faults;
 use crate::hint::Hint;
 use rows::NoMemory;
 use sim_ending::EndError;
+use std::alloc::{AllocError, AllocFailed};
 use std::io;
 use thiserror::Error;
 
@@ -55,6 +56,22 @@ impl<'a> From<NoMemory> for Fault<'a> {
     ghost from_gives = { λ _ e. e ≡ faults.NoMemory };
 
     fn from(_e: NoMemory) -> Fault<'a> {
+        Fault::NoMemory
+    }
+}
+
+impl<'a> From<AllocError> for Fault<'a> {
+    ghost from_gives = { λ _ e. e ≡ faults.NoMemory };
+
+    fn from(_e: AllocError) -> Fault<'a> {
+        Fault::NoMemory
+    }
+}
+
+impl<'a, T: Drop> From<AllocFailed<T>> for Fault<'a> {
+    ghost from_gives = { λ _ e. e ≡ faults.NoMemory };
+
+    fn from(_e: AllocFailed<T>) -> Fault<'a> {
         Fault::NoMemory
     }
 }

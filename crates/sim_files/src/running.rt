@@ -13,6 +13,7 @@ ghost use Rattle.sim_scenario.specs.Steps.{IsLine, Step as AnyStep, played_step}
 ghost use Rattle.sim_files.specs.declared.fault.Fault.TheVariants as faults;
 ghost use Rattle.sim_files.specs.Faults.{IsOfRun, IsPastReading, MayStopReading};
 ghost use Rattle.sim_files.specs.Inner.Files.{IsScenarioFile};
+ghost use Rattle.sim_files.specs.Inner.Steps.{AreSteps};
 ghost use Rattle.sim_play.specs.Plays.{IsNewPlay, MakesGroup};
 ghost use Rattle.sim_files.specs.Plays.{TellsLines, TellsPlay};
 ghost use Rattle.sim_files.specs.Refusals.{refusal_line};
@@ -48,9 +49,9 @@ pub fn run_file<'a, F: Shelf, W: Write>(
     ensures of_run { IfErr result IsOfRun }
 {
     let scenario = load(alloc, shelf, file)?;
-    check_steps(alloc, &scenario)?;
+    let steps = read_steps(alloc, &scenario)?;
     let mut play = begin(alloc, &scenario)?;
-    let status = play_steps(alloc, out, &mut play, &scenario)?;
+    let status = take_steps(out, &mut play, &scenario, steps)?;
     end_run(alloc, shelf, out, &play.world, transcript)?;
     Ok(status)
 }
@@ -69,13 +70,35 @@ pub fn play_steps<'a, W: Write, S: Stage>(
     ensures past { IfErr result (λ fault. IsGood scenario.now → IsPastReading fault) }
     ensures of_run { IfErr result IsOfRun }
 {
+    let steps = read_steps(alloc, scenario)?;
+    take_steps(out, stage, scenario, steps)
+}
+
+// Takes these steps, which are those of a scenario's lines, and says which are refused: 1 where one
+// is.
+fn take_steps<'a, W: Write, S: Stage>(
+    out: &mut W,
+    stage: &mut S,
+    scenario: &Scenario,
+    steps: Vec<Step>,
+) -> Result<u8, Fault<'a>>
+    requires { AreSteps steps.items (step_lines scenario.now) }
+    ensures most { IfOk result (λ status. status ≤ 1) }
+    ensures quiet { IfOk result (λ status. status ≡ 0 → out.new ≡ out.old) }
+    ensures told { IfOk result (λ status. TellsLines S.Takes S.Refuses (step_lines scenario.now)
+        stage.old stage.new status (W.contents out.old) (W.contents out.new)) }
+    ensures past { IfErr result IsPastReading }
+    ensures of_run { IfErr result IsOfRun }
+{
     let mut status = 0;
-    for line in &scenario.steps {
-        let step = step_of(alloc, line.as_str())?;
+    let mut at = 0usize;
+    for step in steps {
+        let line = scenario.steps[at].as_str();
         if let Err(refusal) = stage.take(step) {
-            print_refusal(out, refusal, line.as_str())?;
+            print_refusal(out, refusal, line)?;
             status = 1;
         }
+        at += 1;
     }
     Ok(status)
 }
@@ -194,8 +217,22 @@ fn step_of<'a>(alloc: Global, line: &str) -> Result<Step, Fault<'a>>
     }
 }
 
-/// Each line is looked at before the first step is taken, and read when its step is: a step may
-/// hold a plan, so a list of them all would cost more than the lines do.
+// The steps of a scenario's lines.
+fn read_steps<'a>(alloc: Global, scenario: &Scenario) -> Result<Vec<Step>, Fault<'a>>
+    ensures steps { IfOk result (λ steps. AreSteps steps.items (step_lines scenario.now)) }
+    ensures good { OnOk result (IsGood scenario.now) }
+    ensures fault { IfErr result (MayStopReading (IsGood scenario.now)) }
+    ensures of_run { IfErr result IsOfRun }
+{
+    let mut steps = Vec::with_capacity(alloc, scenario.steps.len())?;
+    for line in &scenario.steps {
+        let step = step_of(alloc, line.as_str())?;
+        steps.push(step)?;
+    }
+    Ok(steps)
+}
+
+/// Looks at each line, and keeps none of the steps.
 pub fn check_steps<'a>(alloc: Global, scenario: &Scenario) -> Result<(), Fault<'a>>
     ensures good { OnOk result (IsGood scenario.now) }
     ensures fault { IfErr result (MayStopReading (IsGood scenario.now)) }
