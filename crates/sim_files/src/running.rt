@@ -1,5 +1,5 @@
 //! A scenario's file, played.
-ghost use Rattle.std.specs.Prelude.{◌≡◌, ◌≢◌, ◌≤◌, ◌⊎◌, IfErr, IfOk, IfSome, OnOk, option_and_then, option_map};
+ghost use Rattle.std.specs.Prelude.{◌≡◌, ◌≢◌, ◌≤◌, ◌⊎◌, IfErr, IfOk, IfSome, OnOk, map, option_and_then, option_map, string_bytes};
 ghost use Rattle.std.specs.Io.KnownBytes.{Appends};
 ghost use Rattle.rows.specs.declared.refusal.Refusal.TheVariants as refusals;
 ghost use Rattle.event_texts.specs.Transcripts.{IsTranscript};
@@ -51,7 +51,7 @@ pub fn run_file<'a, F: Shelf, W: Write>(
     let scenario = load(alloc, shelf, file)?;
     let steps = read_steps(alloc, &scenario)?;
     let mut play = begin(alloc, &scenario)?;
-    let status = take_steps(out, &mut play, &scenario, steps)?;
+    let status = take_steps(out, &mut play, &scenario.steps, steps)?;
     end_run(alloc, shelf, out, &play.world, transcript)?;
     Ok(status)
 }
@@ -71,34 +71,34 @@ pub fn play_steps<'a, W: Write, S: Stage>(
     ensures of_run { IfErr result IsOfRun }
 {
     let steps = read_steps(alloc, scenario)?;
-    take_steps(out, stage, scenario, steps)
+    take_steps(out, stage, &scenario.steps, steps)
 }
 
-// Takes these steps, which are those of a scenario's lines, and says which are refused: 1 where one
-// is.
+// Takes these steps, which are those of these lines, and says which are refused: 1 where one is.
 fn take_steps<'a, W: Write, S: Stage>(
     out: &mut W,
     stage: &mut S,
-    scenario: &Scenario,
+    lines: &[String],
     steps: Vec<Step>,
 ) -> Result<u8, Fault<'a>>
-    requires { AreSteps steps.items (step_lines scenario.now) }
+    requires steps { AreSteps steps.items (map string_bytes lines.now) }
     ensures most { IfOk result (λ status. status ≤ 1) }
     ensures quiet { IfOk result (λ status. status ≡ 0 → out.new ≡ out.old) }
-    ensures told { IfOk result (λ status. TellsLines S.Takes S.Refuses (step_lines scenario.now)
-        stage.old stage.new status (W.contents out.old) (W.contents out.new)) }
+    ensures told { IfOk result (λ status. TellsLines S.Takes S.Refuses
+        (map string_bytes lines.now) stage.old stage.new status
+        (W.contents out.old) (W.contents out.new)) }
     ensures past { IfErr result IsPastReading }
     ensures of_run { IfErr result IsOfRun }
 {
     let mut status = 0;
-    let mut at = 0usize;
+    let mut place = 0usize;
     for step in steps {
-        let line = scenario.steps[at].as_str();
+        let line = lines[place].as_str();
         if let Err(refusal) = stage.take(step) {
             print_refusal(out, refusal, line)?;
             status = 1;
         }
-        at += 1;
+        place += 1;
     }
     Ok(status)
 }

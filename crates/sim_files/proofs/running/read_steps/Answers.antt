@@ -1,5 +1,4 @@
-use Rattle.std.proofs.Common.{◌≡◌, ◌≤◌, ◌<◌, ◌++◌, ◌∷◌, [], length, rules}
-use Rattle.std.proofs.lemmas.Result.{IfErr-weaker}
+use Rattle.std.proofs.Common.{◌≤◌, ◌<◌, length, rules}
 use Rattle.sim_play.proofs.GoodSteps.{good_at}
 use Rattle.sim_files.proofs.ReadSteps.{all_steps, good_lines, one_more_step}
 use Rattle.sim_files.proofs.Reasons.{stops_reading}
@@ -20,8 +19,7 @@ loop-line-preserved c =
     let inside : i < length lines = search rules in
     let at = rw c.deref-line-items.ensures.value at c.line-item.is in
     let named = rw c.as_str.ensures.value at c.in_ok-step.ensures.named in
-    let pushed : c.push.new.self.items ≡ c.loop-line.steps.items ++ c.in_ok-step.step ∷ [] = search rules in
-    rw pushed (one_more_step c.loop-line.steps.items lines i c.line-item.result c.in_ok-step.step c.loop-line.invariant inside at named)
+    rw c.in_ok-push.ensures.items (one_more_step c.loop-line.steps.items lines i c.line-item.result c.in_ok-step.step c.loop-line.invariant inside at named)
 
 pub returns-clause-steps : goal.returns-clause-steps
 returns-clause-steps c =

@@ -7,12 +7,12 @@ returns-clause-told g c =
     record {
       scenario = c.in_ok-scenario.scenario;
       read = c.in_ok-scenario.ensures.read;
-      good = c.in_ok-check_steps.ensures.good;
+      good = c.in_ok-steps.ensures.good;
       first = c.in_ok-play.play;
-      last = c.play_steps.new.stage;
+      last = c.take_steps.new.stage;
       begun = c.in_ok-play.ensures.ok;
       refused = told.0;
       played = told.1;
       recorded = c.in_ok-end_run.ensures.written;
-      told = (contents c.play_steps.new.out, told.2, c.in_ok-end_run.ensures.ending);
+      told = (contents c.take_steps.new.out, told.2, c.in_ok-end_run.ensures.ending);
     }

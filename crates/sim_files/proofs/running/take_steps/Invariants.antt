@@ -8,9 +8,9 @@ abbrev pub invariant-loop-step : goal.invariant-loop-step
 invariant-loop-step g l = record {
   split : l.yielded ++ into_iter_items l.step-iterator ≡ l.fn.steps.items;
   left : into_iter_len l.step-iterator ≡ length (into_iter_items l.step-iterator);
-  place : l.at ≡ length l.yielded;
+  counted : l.place ≡ length l.yielded;
   most : l.status ≤ 1;
   quiet : l.status ≡ 0 → l.out ≡ l.fn.out;
-  told : TellsLines g.S.Stage.Takes g.S.Stage.Refuses (map string_bytes (take l.at l.scenario.steps.items)) l.fn.stage l.stage l.status
+  told : TellsLines g.S.Stage.Takes g.S.Stage.Refuses (map string_bytes (take l.place l.lines)) l.fn.stage l.stage l.status
       (g.W.Write.contents l.fn.out) (g.W.Write.contents l.out);
 }
