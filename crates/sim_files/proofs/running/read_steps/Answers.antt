@@ -1,4 +1,4 @@
-use Rattle.std.proofs.Common.{◌≤◌, ◌<◌, length, rules}
+use Rattle.std.proofs.Common.{Err, ◌≡◌, ◌≤◌, ◌<◌, length, rules}
 use Rattle.sim_play.proofs.GoodSteps.{good_at}
 use Rattle.sim_files.proofs.ReadSteps.{all_steps, good_lines, one_more_step}
 use Rattle.sim_files.proofs.Reasons.{stops_reading}
@@ -10,7 +10,8 @@ returns-in_err-step-clause-fault c =
     let i = c.loop-line.line-index in
     let inside : i < length lines = search rules in
     let at = rw c.deref-line-items.ensures.value at c.line-item.is in
-    stops_reading _ (λ good. good_at lines i c.line-item.result good inside at) (rw c.as_str.ensures.value at c.in_err-step.ensures.fault)
+    let same : c.from_residual-in_err-step.result ≡ Err c.in_err-step.field-0.0 = search rules in
+    rw same (stops_reading _ (λ good. good_at lines i c.line-item.result good inside at) (rw c.as_str.ensures.value at c.in_err-step.ensures.fault))
 
 pub loop-line-preserved : goal.loop-line-preserved
 loop-line-preserved c =

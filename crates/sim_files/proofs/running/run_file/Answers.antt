@@ -3,7 +3,7 @@ use Rattle.sim_files.proofs.running.run_file.Goals as goal
 pub returns-clause-told : goal.returns-clause-told
 returns-clause-told g c =
     let contents = g.W.Write.contents in
-    let told = c.in_ok-status.ensures.told in
+    let told = rw c.deref.ensures.value at c.in_ok-status.ensures.told in
     record {
       scenario = c.in_ok-scenario.scenario;
       read = c.in_ok-scenario.ensures.read;

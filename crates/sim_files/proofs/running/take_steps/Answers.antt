@@ -1,4 +1,4 @@
-use Rattle.std.proofs.Common.{◌≡◌, ◌∙◌, ◌≤◌, ◌<◌, ◌++◌, ◌∷◌, [], ap, arith, get_or, length, map, rules, string_bytes, subst, sym, take}
+use Rattle.std.proofs.Common.{◌≡◌, ◌∙◌, ◌≤◌, ◌<◌, ◌++◌, ◌∷◌, [], ap, arith, get_or, length, length-append, map, rules, string_bytes, subst, sym, take}
 use Rattle.std.specs.Vec.Iter.{into_iter_items, into_iter_len}
 use Rattle.std.proofs.lemmas.List.{append_assoc, take_all}
 use Rattle.sim_scenario.specs.Steps.{IsLine, played_step}
@@ -19,8 +19,8 @@ loop-step-init g c = record {
   told = search rules;
 }
 
-pub index-lines-place-requires : goal.index-lines-place-requires
-index-lines-place-requires g c =
+pub bounds-lines-place : goal.bounds-lines-place
+bounds-lines-place g c =
     let l = c.loop-step in
     let lines = c.args.lines.now in
     let rest = into_iter_items c.next.new.self in
@@ -55,7 +55,7 @@ loop-step-preserved g c =
           (record {
             split = more;
             left = omega arith;
-            counted = search (rules, was.counted);
+            counted = omega (arith, was.counted, length-append l.yielded (step ∷ []));
             most = omega arith;
             quiet = λ none. cc;
             told =
@@ -68,7 +68,7 @@ loop-step-preserved g c =
           (record {
             split = more;
             left = omega arith;
-            counted = search (rules, was.counted);
+            counted = omega (arith, was.counted, length-append l.yielded (step ∷ []));
             most = was.most;
             quiet = was.quiet;
             told =
@@ -86,4 +86,4 @@ returns-clause-told g c =
     let gone = all_taken l.yielded (into_iter_items l.step-iterator) c.args.steps.items lines (into_iter_len l.step-iterator) c.requires.steps was.split was.left c.in-None.ensures.steps.0 in
     let most : length lines ≤ l.place = omega (arith, was.counted, gone) in
     subst (λ ls. TellsLines g.S.Stage.Takes g.S.Stage.Refuses (map string_bytes ls) c.args.stage.now l.stage l.status (contents c.args.out.now) (contents l.out))
-        (take_all l.place lines most) was.told
+    (take_all l.place lines most) was.told
