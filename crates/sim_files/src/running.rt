@@ -53,6 +53,8 @@ pub fn run_file<'a, F: Shelf, W: Write>(
     let mut play = begin(alloc, &scenario)?;
     let status = take_steps(out, &mut play, &scenario.steps, steps)?;
     end_run(alloc, shelf, out, &play.world, transcript)?;
+    // The process ends next, and gives all memory back at once.
+    std::mem::forget(play);
     Ok(status)
 }
 
