@@ -14,6 +14,8 @@ ghost use Rattle.client_agent.specs.Refusals.{client_frame_refusal, misdirected_
 ghost use Rattle.client_agent.specs.Inner.Asking.{handing_of};
 ghost use Rattle.client_agent.specs.Inner.Received.{IsReceived, TakesReceived};
 
+mod restarting;
+
 use crate::asking::{Asked, client_of, send_asked};
 use crate::life::Life;
 use crate::listing::{Received, Shown, apply_list};

@@ -1,0 +1,4 @@
+pub mod ReadItems
+pub mod HandedIn
+pub mod Passed
+pub mod Sending

@@ -1,0 +1,3 @@
+-- Words of private contracts.
+pub mod Lines
+pub mod Outcomes
