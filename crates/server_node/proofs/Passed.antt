@@ -8,23 +8,25 @@ use Rattle.rows.specs.declared.worker.WorkerRequest.TheVariants as requests
 use Rattle.group_model.specs.NextStep as steps
 use Rattle.group_inputs.specs.declared.server_input.ServerInput.{ServerInput}
 use Rattle.group_inputs.specs.Handings.{Handing, OwnInput, handing}
-use Rattle.server.specs.declared.server.Outbox.{Outbox}
+use Rattle.journal.specs.declared.storing.Out.{Out}
 use Rattle.server.specs.ServerViews.{ServerView}
 use Rattle.timers.specs.declared.due.Due.{Due}
 use Rattle.workers.specs.Working.{HandledAs, asking}
 use Rattle.workers.specs.declared.server_workers.Handled.{Handled}
 use Rattle.workers.specs.declared.server_workers.Handled.TheVariants as handled
-use Rattle.server_node.specs.Handed.{HandsAll, IsOwn}
+use Rattle.server_node.specs.Handed.{IsOwn}
+use Rattle.server_node.specs.Inner.Going.{HandedAllBy}
 use Rattle.server_node.specs.Passing.{input_due}
+use Rattle.server_node.proofs.HandedIn.{hands_none}
 
 -- ---- what is due
 
-pub one_due : (old : ServerView) (before : Outbox) (leader : Option ℕ) (what : Due) (h : Handing) (new : ServerView) (after : Outbox) → Some h ≡ input_due leader what
-    → HandsAll old before (h ∷ []) new after → HandsAll old before (filter_map (input_due leader) (what ∷ [])) new after
-one_due old before leader what h new after is hands = subst (λ o. HandsAll old before (cons_option o []) new after) is hands
+pub one_due : (old : ServerView) (frames : List Out) (leader : Option ℕ) (what : Due) (h : Handing) (new : ServerView) (framed : List Out) → Some h ≡ input_due leader what
+    → HandedAllBy old (h ∷ []) new frames framed → HandedAllBy old (filter_map (input_due leader) (what ∷ [])) new frames framed
+one_due old frames leader what h new framed is hands = subst (λ o. HandedAllBy old (cons_option o []) new frames framed) is hands
 
-pub none_due : (old : ServerView) (before : Outbox) (leader : Option ℕ) (what : Due) → None ≡ input_due leader what → HandsAll old before (filter_map (input_due leader) (what ∷ [])) old before
-none_due old before leader what is = subst (λ (o : Option Handing). HandsAll old before (cons_option o []) old before) is (refl, refl)
+pub none_due : (old : ServerView) (frames : List Out) (leader : Option ℕ) (what : Due) → None ≡ input_due leader what → HandedAllBy old (filter_map (input_due leader) (what ∷ [])) old frames frames
+none_due old frames leader what is = subst (λ (o : Option Handing). HandedAllBy old (cons_option o []) old frames frames) is (hands_none old frames)
 
 pub due_more : (leader : Option ℕ) (due : List Due) (i : ℕ) (what : Due) → i < length due → what ≡ get_or due i what
     → filter_map (input_due leader) (take i due) ++ filter_map (input_due leader) (what ∷ []) ≡ filter_map (input_due leader) (take (i + 1) due)

@@ -1,27 +1,24 @@
 -- What a server's process answers.
-use Rattle.std.specs.Prelude.{◌≡◌, ◌⊎◌, ℕ, Option, Some, None, List, [], ◌∷◌, ◌++◌, codes, decimal, length, map}
-use Rattle.std.specs.List.{Contains}
+use Rattle.std.specs.Prelude.{◌≡◌, ℕ, Bool, true, false, not, if◌then◌else◌, Option, Some, None, List, [], ◌∷◌, ◌++◌, codes, decimal, filter, map}
+use Rattle.std.specs.List.{AllByRecursion, filter_map}
 use Rattle.fields_model.specs.Format.{spelled}
 use Rattle.rows.specs.Requests.{command_of}
 use Rattle.rows.specs.Words.{refusal_words}
 use Rattle.rows.specs.Refusals.{number_of}
+use Rattle.rows.specs.declared.command.Command.{Command}
 use Rattle.rows.specs.declared.refusal.Refusal.{Refusal}
 use Rattle.rows.specs.declared.request.OperatorRequest.{OperatorRequest}
 use Rattle.wire.specs.Frames.{Frame, sized}
+use Rattle.raft_model.specs.Rafts.{Raft}
 use Rattle.raft_core.specs.Tickets.{IsTicket, proposal_status_of}
-use Rattle.raft_core.specs.Steps.{role_of}
 use Rattle.raft_core.specs.declared.role.Role.{Role}
 use Rattle.raft_core.specs.declared.role.Role.TheVariants.{Follower, Candidate, Leader}
 use Rattle.raft_core.specs.declared.ticket.ProposalStatus.{ProposalStatus}
 use Rattle.raft_core.specs.declared.ticket.ProposalStatus.TheVariants.{Pending, Committed, Superseded, Compacted}
-use Rattle.group_model.specs.Inputs.{Request}
 use Rattle.group_model.specs.Servers.{Server}
-use Rattle.group_inputs.specs.Handings.{OwnInput}
-use Rattle.server.specs.ServerViews.{RefinesServer}
-use Rattle.actor.specs.Refusals.{ServerRefuses}
+use Rattle.server.specs.ServerViews.{ServerView, RefinesServer}
 use Rattle.journal.specs.Events.{IoEvent, BytesSent}
 use Rattle.server_node.specs.declared.asked.Asked.{Asked}
-use Rattle.server_node.specs.Items.{IsLine, IsQuestion, IsRequestLine, IsStatus}
 use Rattle.server_node.specs.Nodes.{NodeView}
 
 -- each frame goes to the output, as an item
@@ -63,27 +60,42 @@ role_word (Some Leader) = codes "leader"
 abbrev pub status_text : Option Role → ℕ → ℕ → List ℕ
 status_text role term last = codes "server " ++ (role_word role ++ (codes " term " ++ (decimal term ++ (codes " last " ++ decimal last))))
 
--- Where a command stands that an operator's line asked for.
-pub record IsTicketFor (new : NodeView) (line : List ℕ) (index term : ℕ) : Type 0 where
-  pub request : OperatorRequest
-  pub read : IsRequestLine new.server.raft.me line request
-  pub stands : (s : Server) → RefinesServer new.server s → IsTicket s.raft (command_of request) index term
+-- Where a command stands that an operator's request asked for.
+abbrev pub IsTicketOf : NodeView → OperatorRequest → ℕ → ℕ → Type 0
+IsTicketOf new request index term =
+    (s : Server) → RefinesServer new.server s → IsTicket s.raft (command_of request) index term
 
--- One answer, behind a turn that led to the new node. So `committed` is told of a command that the
--- new server has applied, of which it stores each entry; and what it stores is stored before.
-pub data IsAnswer (item : List ℕ) (old new : NodeView) (event : IoEvent) : Type 0 where
-  ticket : (id index term : ℕ) (line : List ℕ) → IsLine item id line → IsTicketFor new line index term
-      → event ≡ answer id (placed_text (codes "ticket") index term) → IsAnswer item old new event
-  refused : (id : ℕ) (line : List ℕ) (request : OperatorRequest) (cause : Refusal) → IsLine item id line → IsRequestLine old.server.raft.me line request
-      → ServerRefuses old.server (OwnInput (Request request)) cause → event ≡ answer id (refused_text cause) → IsAnswer item old new event
-  unread : (id : ℕ) (line : List ℕ) → IsLine item id line → ((request : OperatorRequest) → IsRequestLine old.server.raft.me line request → ⊥)
-      → event ≡ answer id (codes "no request to this server") → IsAnswer item old new event
-  asked : (id index term : ℕ) (status : Option ProposalStatus) → IsQuestion item id index term
-      → ((s : Server) → RefinesServer new.server s → status ≡ proposal_status_of s.raft index term)
-      → event ≡ answer id (placed_text (proposal_word status) index term) → IsAnswer item old new event
-  stands_so : (id : ℕ) (text : List ℕ) → IsStatus item id
-      → ((s : Server) → RefinesServer new.server s → text ≡ status_text (role_of s.raft.mode) s.raft.term (length s.raft.log))
-      → event ≡ answer id text → IsAnswer item old new event
-  settled : (a : Asked) (status : ProposalStatus) → Contains old.asked a ⊎ Contains new.asked a
-      → ((s : Server) → RefinesServer new.server s → proposal_status_of s.raft a.index a.term ≡ Some status)
-      → event ≡ answer a.id (placed_text (proposal_word (Some status)) a.index a.term) → IsAnswer item old new event
+-- ---- tickets that were told
+
+-- whether it is known what became of a command
+abbrev pub is_settled : Option ProposalStatus → Bool
+is_settled None = false
+is_settled (Some Pending) = false
+is_settled (Some _) = true
+
+-- what its asker is told then
+abbrev pub told_of : Asked → Option ProposalStatus → Option IoEvent
+told_of a status =
+    if is_settled status
+    then Some (answer a.id (placed_text (proposal_word status) a.index a.term))
+    else None
+
+abbrev pub status_of : Raft Command → Asked → Option ProposalStatus
+status_of s a = proposal_status_of s a.index a.term
+
+abbrev pub settled : Raft Command → Asked → Option IoEvent
+settled s a = told_of a (status_of s a)
+
+abbrev pub is_open : Raft Command → Asked → Bool
+is_open s a = not (is_settled (status_of s a))
+
+-- an answer to whom it may be
+abbrev pub IsAnswer : IoEvent → Type 0
+IsAnswer event = (id : ℕ) × (text : List ℕ) × (event ≡ answer id text)
+
+-- Of these tickets each is told what became of it, in order, and the others are left. So
+-- `committed` is told of a command that this server has applied.
+pub record Settles (server : ServerView) (asked : List Asked) (told : List IoEvent) (left : List Asked) : Type 0 where
+  pub answers : AllByRecursion IsAnswer told
+  pub all : (s : Server) → RefinesServer server s → told ≡ filter_map (settled s.raft) asked
+  pub others : (s : Server) → RefinesServer server s → left ≡ filter (is_open s.raft) asked

@@ -39,3 +39,11 @@ pub record IsStatus (item : List ℕ) (id : ℕ) : Type 0 where
 -- a scenario's line by which this server is asked that
 abbrev pub IsRequestLine : ℕ → List ℕ → OperatorRequest → Type 0
 IsRequestLine me line request = IsEventLine (AtServer me (Request request)) line
+
+-- none of these
+pub record IsNoItem (item : List ℕ) : Type 0 where
+  pub no_frame : is_frame item ≡ false
+  pub no_time : (ms : ℕ) → IsTime item ms → ⊥
+  pub no_line : (id : ℕ) (line : List ℕ) → IsLine item id line → ⊥
+  pub no_question : (id place its_term : ℕ) → IsQuestion item id place its_term → ⊥
+  pub no_status : (id : ℕ) → IsStatus item id → ⊥

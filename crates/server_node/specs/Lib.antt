@@ -2,6 +2,7 @@ pub mod Items
 pub mod Nodes
 pub mod Handed
 pub mod Working
+pub mod Sights
 pub mod Passing
 pub mod Answers
 pub mod Turns

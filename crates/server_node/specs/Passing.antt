@@ -1,25 +1,17 @@
 -- What is handed to a server as time passes.
-use Rattle.std.specs.Prelude.{◌≡◌, ℕ, Bool, true, false, Option, Some, None, if◌then◌else◌, List, [], ◌∷◌, ◌++◌, map, is_some}
-use Rattle.std.specs.List.{Contains, filter_map}
+use Rattle.std.specs.Prelude.{◌≡◌, ◌≢◌, ℕ, Bool, true, Option, Some, None, if◌then◌else◌, List, [], ◌++◌, MatchBool}
+use Rattle.std.specs.List.{filter_map}
 use Rattle.group_model.specs.Inputs as inputs
-use Rattle.raft_model.specs.Rafts.{Raft, is_leader}
+use Rattle.raft_model.specs.Rafts.{is_leader}
 use Rattle.group_inputs.specs.Handings.{Handing, OwnInput}
 use Rattle.server.specs.ServerViews.{ServerView}
-use Rattle.workers.specs.PlanCounts.{WorkersView}
 use Rattle.timers.specs.declared.due.Due.{Due}
 use Rattle.timers.specs.declared.due.Due.TheVariants as dues
 use Rattle.timers.specs.declared.due.Seen.{Seen}
-use Rattle.timers.specs.ServerTimes.{Sights, due_after, looks}
-use Rattle.timers.specs.declared.watch.Sighting.{Sighting}
-use Rattle.timers.specs.declared.watch.Sighting.TheVariants as sightings
-use Rattle.rows.specs.declared.evaluation.EvalId.{EvalId}
-use Rattle.rows.specs.declared.token.Token.{Token}
-use Rattle.eval_broker.specs.Answers.{pair_of}
-use Rattle.group_model.specs.Brokers.{task_of}
-use Rattle.group_model.specs.Expiry.{heartbeat_count_of}
-use Rattle.leader.specs.OpenDesks.{OpenDesk}
-use Rattle.server_node.specs.Nodes.{NodeView}
+use Rattle.timers.specs.ServerTimes.{Sights, beat_after, due_after, looks, times_after}
 use Rattle.server_node.specs.Handed.{AreOwn}
+use Rattle.server_node.specs.Nodes.{NodeView}
+use Rattle.server_node.specs.Sights.{Sees}
 
 -- the leader that a server knows: itself where it leads
 abbrev pub leader_of : ServerView → Option ℕ
@@ -42,26 +34,18 @@ input_due leader (dues.DrainTurn node) = Some (OwnInput (inputs.DrainTurn node))
 abbrev pub seen_of : NodeView → Bool → Seen
 seen_of v idle = record { leads = is_leader v.server.raft.server.mode; term = v.server.raft.server.term; idle = idle }
 
--- a node that the desk counts so many heartbeats of; an evaluation that a worker has under this token
-abbrev pub IsAtDesk : OpenDesk → Sighting → Type 0
-IsAtDesk o (sightings.Node node beats) = heartbeat_count_of node o.desk.heartbeat_counts ≡ Some (record { node = node; beats = beats })
-IsAtDesk o (sightings.Delivery eval token) = (wait : ℕ) × (pair_of (task_of eval o.desk.broker.tasks) ≡ Some (token, wait))
-
--- What timers look at is what the desk has, and all of it.
-pub record SeesDesk (v : ServerView) (s : Sights) : Type 0 where
-  pub only_nodes : (o : OpenDesk) → v.desk ≡ Some o → (what : Sighting) → Contains s.nodes what → IsAtDesk o what
-  pub only_deliveries : (o : OpenDesk) → v.desk ≡ Some o → (what : Sighting) → Contains s.deliveries what → IsAtDesk o what
-  pub nodes : (o : OpenDesk) → v.desk ≡ Some o → (node beats : ℕ) → IsAtDesk o (sightings.Node node beats) → Contains s.nodes (sightings.Node node beats)
-  pub deliveries : (o : OpenDesk) → v.desk ≡ Some o → (eval : EvalId) (token : Token) → IsAtDesk o (sightings.Delivery eval token) → Contains s.deliveries (sightings.Delivery eval token)
-  pub closed : v.desk ≡ None → (s.nodes ≡ []) × (s.deliveries ≡ [])
-
 -- What is handed in once so many milliseconds passed: what is due by the timers, of what is seen;
--- then what workers ask, and a beat, each an input of the server's own.
-pub record IsHandedByTime (ms : ℕ) (old : NodeView) (handed : List Handing) : Type 0 where
+-- then what workers ask, and a beat, each an input of the server's own. The timers are then what is
+-- left of them, whichever entries were beaten.
+pub record IsHandedByTime (ms : ℕ) (old new : NodeView) (handed : List Handing) : Type 0 where
   pub idle : Bool
+  pub rests : MatchBool idle (old.workers.waiting ≡ []) (old.workers.waiting ≢ [])
   pub sights : Sights
-  pub sees : looks ms old.timers ≡ true → is_leader old.server.raft.server.mode ≡ true → SeesDesk old.server sights
-  pub leader : Option ℕ
+  pub sees : is_leader old.server.raft.server.mode ≡ true → looks ms old.timers ≡ true → Sees old.server sights
   pub rest : List Handing
-  pub is : handed ≡ filter_map (input_due leader) (due_after ms old.timers (seen_of old idle) sights) ++ rest
+  pub is : handed ≡ filter_map (input_due (leader_of old.server)) (due_after ms old.timers (seen_of old idle) sights) ++ rest
   pub own : AreOwn rest
+  pub leads : Bool
+  pub last : ℕ
+  pub applied : ℕ
+  pub timers : new.timers ≡ beat_after ms (times_after ms old.timers (seen_of old idle) sights) leads last applied

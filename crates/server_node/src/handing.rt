@@ -1,24 +1,31 @@
 //! What is handed to the server, one after the other.
-ghost use Rattle.std.specs.Prelude.{◌≡◌, IfOk, IfSome, OnOk};
+ghost use Rattle.std.specs.Prelude.{◌≡◌, Some, false, IfOk, IfSome, OnOk};
 ghost use Rattle.rows.specs.declared.command.Command.{Command};
 ghost use Rattle.fsm_model.specs.Words.{State};
 ghost use Rattle.group_inputs.specs.Handings.{FrameBytes, handing};
 ghost use Rattle.raft_core.specs.RaftView.{RaftView};
 ghost use Rattle.raft_core.specs.StoredParts.{stored_part, KeepsLog};
+ghost use Rattle.raft_snapshot.specs.Compacted.{IsCompacted};
 ghost use Rattle.raft_snapshot.specs.Stored.{Stored};
 ghost use Rattle.raft_records.specs.Records.{IsDelta};
 ghost use Rattle.raft_records.specs.Remembering.{Remembers};
-ghost use Rattle.server_node.specs.Handed.{Hands, IsOwn};
-ghost use Rattle.server_node.specs.Inner.Outcomes.{IsOutcome, is_memory};
+ghost use Rattle.server_node.specs.Answers.{sends};
+ghost use Rattle.server_node.specs.Handed.{IsOwn};
+ghost use Rattle.server_node.specs.Inner.Going.{HandedBy, Leads, Puts};
+ghost use Rattle.server_node.specs.Inner.Outcomes.{StandsWhereTaken, is_compact, is_memory};
+ghost use Rattle.server_node.specs.Turns.{Enqueues};
 
-use actor::{Stepped, deliver_to_server, hand_server};
+use crate::answers::put_frames;
+use actor::no_output;
 use fsm_state::Cluster;
 use group_inputs::ServerInput;
+use journal::Out;
 use raft_core::Raft;
 use raft_records::{Before, LogDelta, changed, joined, remember};
 use rows::{NoMemory, Refusal};
 use server::{Outbox, Server};
 use std::alloc::Global;
+use workers::ServerWorkers;
 
 /// Whether it is want of memory.
 pub fn is_memory(refusal: &Refusal) -> bool
@@ -31,40 +38,75 @@ pub fn is_memory(refusal: &Refusal) -> bool
 }
 
 /// A refusal is answered; want of memory ends the process.
-fn outcome(done: Result<Stepped, Refusal>) -> Result<Option<Refusal>, NoMemory>
-    ensures { IfOk result (IsOutcome done) }
+fn refused(cause: Refusal) -> Result<Option<Refusal>, NoMemory>
+    ensures { IfOk result (λ told. (told ≡ Some cause) × (is_memory cause ≡ false)) }
 {
-    match done {
-        Ok(Stepped::Taken) => Ok(None),
-        Ok(Stepped::Crashed) => Err(NoMemory),
-        Err(refusal) => {
-            if is_memory(&refusal) {
-                Err(NoMemory)
-            } else {
-                Ok(Some(refusal))
-            }
-        }
+    if is_memory(&cause) {
+        return Err(NoMemory);
     }
+    Ok(Some(cause))
 }
 
-/// A server's part of the log.
-pub fn log_of(server: &Server) -> &Raft<Cluster>
-    ensures { result.now ≡ server.now.raft }
+/// Whether it is a Compact, by which the snapshot may come to cover more.
+fn is_compact(input: &ServerInput) -> bool
+    ensures { result ≡ is_compact (handing input.now) }
 {
-    server.log()
+    matches!(input, ServerInput::Compact)
+}
+
+/// What is remembered of a server before a step.
+fn remembered(alloc: Global, server: &Server) -> Result<Option<Before>, NoMemory>
+    ensures { IfOk result (λ before. IfSome before (λ b. Remembers b server.now.raft)) }
+{
+    remember(alloc, server.raft())
+}
+
+/// What a step that the server took changed of what it stores, by what was remembered before, is
+/// added to what was changed. Of a Compact it is not asked.
+fn add_change(server: &Server, compacts: bool, before: &Option<Before>, change: &mut LogDelta)
+    ensures compacted { IsCompacted server.now.raft.base server.now.raft.server }
+    ensures change { (old : RaftView State Command) → IfSome before.now (λ b. Remembers b old) →
+        (compacts ≡ false → server.now.raft.base.index ≡ old.base.index →
+        KeepsLog old server.now.raft) →
+        (first : Stored State Command) → IsDelta change.old first (stored_part old) →
+        IsDelta change.new first (stored_part server.now.raft) }
+{
+    let log = server.raft();
+    log.covered_is_committed();
+    let delta = delta_of(log, compacts, before);
+    *change = joined::<Cluster>(*change, delta);
 }
 
 /// What a step changed of what the server stores, by what was remembered before. Of a Compact it is
 /// not asked.
-fn delta_of(server: &Server, before: &Option<Before>) -> LogDelta
+fn delta_of(log: &Raft<Cluster>, compacts: bool, before: &Option<Before>) -> LogDelta
     ensures { (old : RaftView State Command) → IfSome before.now (λ b. Remembers b old) →
-        (server.now.raft.base.index ≡ old.base.index → KeepsLog old server.now.raft) →
-        IsDelta result (stored_part old) (stored_part server.now.raft) }
+        (compacts ≡ false → log.now.base.index ≡ old.base.index → KeepsLog old log.now) →
+        IsDelta result (stored_part old) (stored_part log.now) }
 {
+    if compacts {
+        return LogDelta::Whole;
+    }
     match before {
-        Some(before) => changed(log_of(server), before),
+        Some(before) => changed(log, before),
         None => LogDelta::Whole,
     }
+}
+
+/// What the server sent is put behind the other frames, and what came for its workers waits behind
+/// what waited.
+fn put_sent(
+    alloc: Global,
+    outbox: Outbox,
+    workers: &mut ServerWorkers,
+    frames: &mut Vec<Out>,
+) -> Result<(), NoMemory>
+    ensures put { OnOk result (Puts frames.old.items frames.new.items (sends outbox.frames)) }
+    ensures work { OnOk result (Enqueues workers.old workers.new outbox.work) }
+{
+    let Outbox { frames: sent, work } = outbox;
+    workers.enqueue(work)?;
+    put_frames(alloc, &sent, frames)
 }
 
 /// A frame is handed to the server: all of its bytes. What it changes of the stored part is added to
@@ -74,49 +116,52 @@ fn delta_of(server: &Server, before: &Option<Before>) -> LogDelta
 pub fn bring(
     alloc: Global,
     server: &mut Server,
+    workers: &mut ServerWorkers,
     frame: &[u8],
     change: &mut LogDelta,
-    outbox: &mut Outbox,
+    frames: &mut Vec<Out>,
 ) -> Result<Option<Refusal>, NoMemory>
-    ensures hands { IfOk result (Hands server.old (FrameBytes frame.now) server.new outbox.old
-        outbox.new) }
-    ensures change { OnOk result ((first : Stored State Command) →
-        IsDelta change.old first (stored_part server.old.raft) →
-        IsDelta change.new first (stored_part server.new.raft)) }
+    ensures hands { IfOk result (HandedBy server.old (FrameBytes frame.now) server.new workers.old
+        workers.new frames.old.items frames.new.items) }
+    ensures change { OnOk result (Leads change.old change.new server.old server.new) }
 {
-    let before = remember(alloc, log_of(server))?;
-    let told = outcome(deliver_to_server(server, frame, outbox))?;
-    if told.is_none() {
-        *change = joined::<Cluster>(*change, delta_of(server, &before));
+    let before = remembered(alloc, server)?;
+    let mut outbox = no_output(alloc);
+    match server.receive(frame, &mut outbox) {
+        Ok(()) => {
+            add_change(server, false, &before, change);
+            put_sent(alloc, outbox, workers, frames)?;
+            Ok(None)
+        }
+        Err(cause) => refused(cause),
     }
-    Ok(told)
 }
 
 /// The same of an input of the server's own.
+/// - `stands`: the command of a request that it takes is the last entry of its log.
 pub fn hand(
     alloc: Global,
     server: &mut Server,
+    workers: &mut ServerWorkers,
     input: ServerInput,
     change: &mut LogDelta,
-    outbox: &mut Outbox,
+    frames: &mut Vec<Out>,
 ) -> Result<Option<Refusal>, NoMemory>
     requires { IsOwn (handing input) }
-    ensures hands { IfOk result (Hands server.old (handing input) server.new outbox.old
-        outbox.new) }
-    ensures change { OnOk result ((first : Stored State Command) →
-        IsDelta change.old first (stored_part server.old.raft) →
-        IsDelta change.new first (stored_part server.new.raft)) }
+    ensures hands { IfOk result (HandedBy server.old (handing input) server.new workers.old
+        workers.new frames.old.items frames.new.items) }
+    ensures change { OnOk result (Leads change.old change.new server.old server.new) }
+    ensures stands { IfOk result (StandsWhereTaken (handing input) server.new) }
 {
-    let compacts = matches!(&input, ServerInput::Compact);
-    let before = remember(alloc, log_of(server))?;
-    let told = outcome(hand_server(server, input, outbox))?;
-    if told.is_none() {
-        let delta = if compacts {
-            LogDelta::Whole
-        } else {
-            delta_of(server, &before)
-        };
-        *change = joined::<Cluster>(*change, delta);
+    let compacts = is_compact(&input);
+    let before = remembered(alloc, server)?;
+    let mut outbox = no_output(alloc);
+    match server.step(input, &mut outbox) {
+        Ok(()) => {
+            add_change(server, compacts, &before, change);
+            put_sent(alloc, outbox, workers, frames)?;
+            Ok(None)
+        }
+        Err(cause) => refused(cause),
     }
-    Ok(told)
 }

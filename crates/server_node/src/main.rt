@@ -11,6 +11,7 @@ mod items;
 mod looking;
 mod node;
 mod passing;
+mod settling;
 mod start;
 mod words;
 mod working;

@@ -1,37 +1,36 @@
 //! One server of the group as an actor. What it is asked, and what it answers, are items of bytes.
-ghost use Rattle.std.specs.Prelude.{◌≡◌, ◌++◌, ◌∷◌, [], true, ℕ, List, IfOk, OnOk, Some, map};
-ghost use Rattle.std.specs.List.{AllByRecursion};
-ghost use Rattle.rows.specs.declared.command.Command.{Command};
+ghost use Rattle.std.specs.Prelude.{◌≡◌, ◌++◌, [], true, false, ℕ, List, IfOk, OnOk, None, Some, map};
 ghost use Rattle.fsm_model.specs.ClusterMachine.{cluster_spec};
-ghost use Rattle.fsm_model.specs.Words.{State};
-ghost use Rattle.raft_core.specs.StoredParts.{stored_part};
-ghost use Rattle.raft_snapshot.specs.Stored.{Stored};
+ghost use Rattle.raft_model.specs.Rafts.{is_leader};
 ghost use Rattle.raft_records.specs.Records.{IsDelta, raft_replay};
 ghost use Rattle.journal.specs.Events.{IoEvent, AreOutputs};
 ghost use Rattle.journal.specs.Replays.{Replay};
 ghost use Rattle.journal.specs.Savings.{output_event, IsSaving};
-ghost use Rattle.server_node.specs.Items.{IsLine, IsQuestion, IsStatus, IsTime, is_frame};
+ghost use Rattle.journal.specs.declared.storing.Out.{Out as AnyOut};
+ghost use Rattle.server_node.specs.Inner.Going.{ToldBy, WentBy};
+ghost use Rattle.server_node.specs.Items.{IsLine, IsQuestion, IsRequestLine, IsStatus, IsTime, is_frame};
 ghost use Rattle.server_node.specs.Laws.Outputs.{outputs_alone};
 ghost use Rattle.server_node.specs.Nodes.{NodeView};
-ghost use Rattle.server_node.specs.Turns.{IsTold, Turn, WentBy, stored_by};
+ghost use Rattle.server_node.specs.Sights.{Sees};
+ghost use Rattle.server_node.specs.Turns.{MayWaitAnew, Turn, stored_by};
 
 use crate::answers::{
-    placed_text, proposal_word, put_answer, put_frames, put_line, refused_text, status_text,
+    placed_text, proposal_word, put_answer, put_line, refused_text, status_text,
 };
 use crate::asked::Asked;
-use crate::handing::{bring, hand, log_of};
+use crate::handing::{bring, hand};
 use crate::items::{is_frame, read_line, read_question, read_request, read_status, read_time};
-use crate::looking::{leader_of, leads, look, unseen};
+use crate::looking::{Sights, leader_of, leads, look, unseen};
 use crate::passing::{do_beat, do_due, do_work};
-use actor::no_output;
+use crate::settling::settle;
 use fsm_state::Cluster;
 use group_inputs::ServerInput;
 use journal::{Actor, Out, Saving};
-use raft_core::{ProposalStatus, Ticket};
+use raft_core::Ticket;
 use raft_records::LogDelta;
 use raft_snapshot::{Stable, changes_lead, stable_texts_are_whole};
-use rows::{Index, NoMemory, Refusal, Term};
-use server::{Outbox, Server};
+use rows::{Index, NoMemory, OperatorRequest, Refusal, ServerId, Term};
+use server::Server;
 use std::alloc::Global;
 use std::marker::Model;
 use timers::{Looked, Seen, ServerTimers};
@@ -77,6 +76,37 @@ fn is_of_leader(frame: &[u8]) -> bool {
     frame.len() >= 2 && (frame[1] == Kind::Append.number() || frame[1] == Kind::Install.number())
 }
 
+/// Whether by a frame the server heard of a leader, or gave its vote, which was this before.
+fn has_heard(server: &Server, frame: &[u8], vote: Option<ServerId>) -> bool {
+    let log = server.raft();
+    let voted = log.vote().is_some() && log.vote() != vote;
+    voted || (is_of_leader(frame) && log.known_leader().is_some())
+}
+
+/// Where it heard of a leader another wait for one begins.
+fn hear(timers: &mut ServerTimers, heard: bool)
+    ensures { MayWaitAnew timers.old timers.new }
+{
+    if heard {
+        timers.heard();
+    }
+}
+
+/// What timers see of a server, where they look.
+fn sights(alloc: Global, server: &Server, looks: bool) -> Result<Sights, NoMemory>
+    ensures { IfOk result (λ sights. is_leader server.now.raft.server.mode ≡ true → looks ≡ true →
+        Sees server.now (record {
+          nodes = sights.nodes.items;
+          deliveries = sights.deliveries.items;
+          drained = sights.drained.items;
+        })) }
+{
+    if looks && leads(server) {
+        return look(alloc, server);
+    }
+    Ok(unseen(alloc))
+}
+
 impl ServerNode {
     /// The actor that this server is, with nothing waiting.
     pub fn new(alloc: Global, server: Server, timers: ServerTimers) -> ServerNode
@@ -102,23 +132,30 @@ impl ServerNode {
         alloc: Global,
         item: &[u8],
         change: &mut LogDelta,
-        outbox: &mut Outbox,
+        frames: &mut Vec<Out>,
         answers: &mut Vec<Out>,
-    ) -> Result<(), NoMemory>
+    ) -> Result<Option<Asked>, NoMemory>
         requires { is_frame item.now ≡ true }
-        ensures { OnOk result (WentBy item.now self.old self.new change.old change.new outbox.old
-            outbox.new answers.old.items answers.new.items) }
+        ensures { IfOk result (WentBy item.now self.old self.new change.old change.new
+            frames.old.items frames.new.items answers.old.items answers.new.items) }
     {
-        let vote = log_of(&self.server).vote();
-        match bring(alloc, &mut self.server, item, change, outbox)? {
-            Some(cause) => put_line(alloc, cause, answers),
+        let vote = self.server.raft().vote();
+        let told = bring(
+            alloc,
+            &mut self.server,
+            &mut self.workers,
+            item,
+            change,
+            frames,
+        )?;
+        match told {
+            Some(cause) => {
+                put_line(alloc, cause, answers)?;
+                Ok(None)
+            }
             None => {
-                let log = log_of(&self.server);
-                let voted = log.vote().is_some() && log.vote() != vote;
-                if voted || (is_of_leader(item) && log.known_leader().is_some()) {
-                    self.timers.heard();
-                }
-                Ok(())
+                hear(&mut self.timers, has_heard(&self.server, item, vote));
+                Ok(None)
             }
         }
     }
@@ -130,21 +167,16 @@ impl ServerNode {
         ms: u32,
         item: &[u8],
         change: &mut LogDelta,
-        outbox: &mut Outbox,
+        frames: &mut Vec<Out>,
         answers: &mut Vec<Out>,
-    ) -> Result<(), NoMemory>
+    ) -> Result<Option<Asked>, NoMemory>
         requires { IsTime item.now ms }
-        ensures { OnOk result (WentBy item.now self.old self.new change.old change.new outbox.old
-            outbox.new answers.old.items answers.new.items) }
+        ensures { IfOk result (WentBy item.now self.old self.new change.old change.new
+            frames.old.items frames.new.items answers.old.items answers.new.items) }
     {
-        let leads = leads(&self.server);
-        let sights = if leads && self.timers.looks(ms) {
-            look(alloc, &self.server)?
-        } else {
-            unseen(alloc)
-        };
+        let sights = sights(alloc, &self.server, self.timers.looks(ms))?;
         let seen = Seen {
-            leads,
+            leads: leads(&self.server),
             term: self.server.term(),
             idle: self.workers.is_idle(),
         };
@@ -153,25 +185,28 @@ impl ServerNode {
             deliveries: sights.deliveries.as_slice(),
             drained: sights.drained.as_slice(),
         };
-        let due = self.timers.pass(alloc, ms, &seen, &looked)?;
         let leader = leader_of(&self.server);
+        let due = self.timers.pass(alloc, ms, &seen, &looked)?;
         do_due(
             alloc,
             &mut self.server,
+            &mut self.workers,
             &leader,
             due.as_slice(),
             change,
-            outbox,
+            frames,
         )?;
-        do_work(alloc, &mut self.server, &mut self.workers, change, outbox)?;
+        do_work(alloc, &mut self.server, &mut self.workers, change, frames)?;
         do_beat(
             alloc,
             &mut self.server,
+            &mut self.workers,
             &mut self.timers,
             ms,
             change,
-            outbox,
-        )
+            frames,
+        )?;
+        Ok(None)
     }
 
     /// An operator's line: where the log takes its request the ticket is answered, else why not.
@@ -182,28 +217,62 @@ impl ServerNode {
         line: &[u8],
         item: &[u8],
         change: &mut LogDelta,
-        outbox: &mut Outbox,
+        frames: &mut Vec<Out>,
         answers: &mut Vec<Out>,
-    ) -> Result<(), NoMemory>
+    ) -> Result<Option<Asked>, NoMemory>
         requires { IsLine item.now id line.now }
-        ensures { OnOk result (WentBy item.now self.old self.new change.old change.new outbox.old
-            outbox.new answers.old.items answers.new.items) }
+        ensures { IfOk result (WentBy item.now self.old self.new change.old change.new
+            frames.old.items frames.new.items answers.old.items answers.new.items) }
     {
-        let Some(request) = read_request(alloc, self.server.me(), line)? else {
-            let text = b"no request to this server".as_slice();
-            return put_answer(alloc, id, text, answers);
-        };
-        let input = ServerInput::Request(request);
-        if let Some(cause) = hand(alloc, &mut self.server, input, change, outbox)? {
-            let text = refused_text(alloc, cause)?;
-            return put_answer(alloc, id, text.as_slice(), answers);
+        let read = read_request(alloc, self.server.me(), line)?;
+        match read {
+            Some(request) => self.request(alloc, id, request, change, frames, answers),
+            None => {
+                put_answer(alloc, id, b"no request to this server".as_slice(), answers)?;
+                Ok(None)
+            }
         }
-        let index = self.server.last();
-        let term = self.server.term();
-        let text = placed_text(alloc, "ticket", index.get(), term.get())?;
-        put_answer(alloc, id, text.as_slice(), answers)?;
-        self.asked.push(Asked { id, index, term })?;
-        Ok(())
+    }
+
+    /// What an operator asks for is handed to the server: where the log takes it the ticket is
+    /// answered, else why not.
+    fn request(
+        &mut self,
+        alloc: Global,
+        id: u64,
+        request: OperatorRequest,
+        change: &mut LogDelta,
+        frames: &mut Vec<Out>,
+        answers: &mut Vec<Out>,
+    ) -> Result<Option<Asked>, NoMemory>
+        ensures { IfOk result (λ ticket. (item line : List ℕ) → IsLine item id line →
+            IsRequestLine self.old.server.raft.me line request →
+            WentBy item self.old self.new change.old change.new frames.old.items frames.new.items
+            answers.old.items answers.new.items ticket) }
+    {
+        let input = ServerInput::Request(request);
+        let told = hand(
+            alloc,
+            &mut self.server,
+            &mut self.workers,
+            input,
+            change,
+            frames,
+        )?;
+        match told {
+            Some(cause) => {
+                let text = refused_text(alloc, cause)?;
+                put_answer(alloc, id, text.as_slice(), answers)?;
+                Ok(None)
+            }
+            None => {
+                let index = self.server.last();
+                let term = self.server.term();
+                let text = placed_text(alloc, "ticket", index.get(), term.get())?;
+                put_answer(alloc, id, text.as_slice(), answers)?;
+                Ok(Some(Asked { id, index, term }))
+            }
+        }
     }
 
     /// What became of a ticket.
@@ -217,8 +286,8 @@ impl ServerNode {
         answers: &mut Vec<Out>,
     ) -> Result<(), NoMemory>
         requires { IsQuestion item.now id index term }
-        ensures { OnOk result ((more : List IoEvent) × AllByRecursion (IsTold item.now self.now self.now) more
-            × (map output_event answers.new.items ≡ map output_event answers.old.items ++ more)) }
+        ensures { OnOk result ((change : LogDelta) (frames : List AnyOut) → WentBy item.now self.now
+            self.now change change frames frames answers.old.items answers.new.items None) }
     {
         let word = proposal_word(self.server.proposal_status(Ticket { index, term }));
         let text = placed_text(alloc, word, index.get(), term.get())?;
@@ -234,68 +303,26 @@ impl ServerNode {
         answers: &mut Vec<Out>,
     ) -> Result<(), NoMemory>
         requires { IsStatus item.now id }
-        ensures { OnOk result ((more : List IoEvent) × AllByRecursion (IsTold item.now self.now self.now) more
-            × (map output_event answers.new.items ≡ map output_event answers.old.items ++ more)) }
+        ensures { OnOk result ((change : LogDelta) (frames : List AnyOut) → WentBy item.now self.now
+            self.now change change frames frames answers.old.items answers.new.items None) }
     {
         let text = status_text(alloc, &self.server)?;
         put_answer(alloc, id, text.as_slice(), answers)
     }
 
-    /// What became of the tickets of which it is known now; the others stay.
-    fn tell_settled(
-        &mut self,
+    /// An item that is no frame, no time and no line: a question, or one at fault.
+    fn take_question(
+        &self,
         alloc: Global,
         item: &[u8],
         answers: &mut Vec<Out>,
     ) -> Result<(), NoMemory>
-        ensures server { self.new.server ≡ self.old.server }
-        ensures others { (self.new.workers ≡ self.old.workers)
-            × (self.new.timers ≡ self.old.timers) }
-        ensures told { OnOk result ((more : List IoEvent)
-            × AllByRecursion (IsTold item.now self.old self.new) more
-            × (map output_event answers.new.items ≡ map output_event answers.old.items ++ more)) }
+        requires no_frame { is_frame item.now ≡ false }
+        requires no_time { (ms : ℕ) → IsTime item.now ms → ⊥ }
+        requires no_line { (id : ℕ) (line : List ℕ) → IsLine item.now id line → ⊥ }
+        ensures { OnOk result ((change : LogDelta) (frames : List AnyOut) → WentBy item.now self.now
+            self.now change change frames frames answers.old.items answers.new.items None) }
     {
-        if self.asked.is_empty() {
-            return Ok(());
-        }
-        let mut open = Vec::new(alloc);
-        for asked in self.asked.as_slice() {
-            let index = asked.index;
-            let term = asked.term;
-            match self.server.proposal_status(Ticket { index, term }) {
-                None | Some(ProposalStatus::Pending) => open.push(*asked)?,
-                status => {
-                    let word = proposal_word(status);
-                    let text = placed_text(alloc, word, index.get(), term.get())?;
-                    put_answer(alloc, asked.id, text.as_slice(), answers)?;
-                }
-            }
-        }
-        self.asked = open;
-        Ok(())
-    }
-
-    /// One item, by its kind.
-    fn take_item(
-        &mut self,
-        alloc: Global,
-        item: &[u8],
-        change: &mut LogDelta,
-        outbox: &mut Outbox,
-        answers: &mut Vec<Out>,
-    ) -> Result<(), NoMemory>
-        ensures { OnOk result (WentBy item.now self.old self.new change.old change.new outbox.old
-            outbox.new answers.old.items answers.new.items) }
-    {
-        if is_frame(item) {
-            return self.bring_frame(alloc, item, change, outbox, answers);
-        }
-        if let Some(ms) = read_time(item) {
-            return self.pass_time(alloc, ms, item, change, outbox, answers);
-        }
-        if let Some((id, line)) = read_line(item) {
-            return self.take_line(alloc, id, line, item, change, outbox, answers);
-        }
         if let Some((id, (index, term))) = read_question(item) {
             return self.answer(alloc, id, index, term, item, answers);
         }
@@ -303,6 +330,49 @@ impl ServerNode {
             Some(id) => self.show(alloc, id, item, answers),
             None => put_line(alloc, Refusal::Frame(0), answers),
         }
+    }
+
+    /// One item, by its kind. It answers the ticket that was told, if one was.
+    fn take_item(
+        &mut self,
+        alloc: Global,
+        item: &[u8],
+        change: &mut LogDelta,
+        frames: &mut Vec<Out>,
+        answers: &mut Vec<Out>,
+    ) -> Result<Option<Asked>, NoMemory>
+        ensures { IfOk result (WentBy item.now self.old self.new change.old change.new
+            frames.old.items frames.new.items answers.old.items answers.new.items) }
+    {
+        if is_frame(item) {
+            return self.bring_frame(alloc, item, change, frames, answers);
+        }
+        if let Some(ms) = read_time(item) {
+            return self.pass_time(alloc, ms, item, change, frames, answers);
+        }
+        if let Some((id, line)) = read_line(item) {
+            return self.take_line(alloc, id, line, item, change, frames, answers);
+        }
+        self.take_question(alloc, item, answers)?;
+        Ok(None)
+    }
+
+    /// What became of the tickets of which it is known now is told; the others stay, and with them
+    /// this one, which is told of now.
+    fn tell_settled(
+        &mut self,
+        alloc: Global,
+        ticket: Option<Asked>,
+        answers: &mut Vec<Out>,
+    ) -> Result<(), NoMemory>
+        ensures { OnOk result (ToldBy self.old self.new answers.old.items answers.new.items ticket) }
+    {
+        let mut open = settle(alloc, &self.server, self.asked.as_slice(), answers)?;
+        if let Some(asked) = ticket {
+            open.push(asked)?;
+        }
+        self.asked = open;
+        Ok(())
     }
 }
 
@@ -332,13 +402,9 @@ impl Actor for ServerNode {
         change: &mut LogDelta,
         outs: &mut Vec<Out>,
     ) -> Result<(), NoMemory> {
-        let mut outbox = no_output(alloc);
         let mut answers = Vec::new(alloc);
-        self.take_item(alloc, item, change, &mut outbox, &mut answers)?;
-        self.tell_settled(alloc, item, &mut answers)?;
-        let Outbox { frames, work } = outbox;
-        self.workers.enqueue(work)?;
-        put_frames(alloc, &frames, outs)?;
+        let ticket = self.take_item(alloc, item, change, outs, &mut answers)?;
+        self.tell_settled(alloc, ticket, &mut answers)?;
         put_all(answers, outs)
     }
 
@@ -350,7 +416,7 @@ impl Actor for ServerNode {
             LogDelta::Whole => Ok(Saving::Whole),
             LogDelta::Behind(keep) => {
                 let keep = *keep;
-                let log = log_of(&self.server);
+                let log = self.server.raft();
                 if keep.get() < log.covered().get() || keep.get() > log.last().get() {
                     return Ok(Saving::Whole);
                 }
@@ -362,6 +428,6 @@ impl Actor for ServerNode {
 
     fn whole(&self, out: &mut Vec<u8>) -> Result<(), NoMemory> {
         stable_texts_are_whole::<Cluster>();
-        log_of(&self.server).write_stable(out)
+        self.server.raft().write_stable(out)
     }
 }

@@ -1,22 +1,20 @@
 //! What a server does as time passes.
-ghost use Rattle.std.specs.Prelude.{◌≡◌, ◌∷◌, [], List, IfSome, OnOk, option_map};
+ghost use Rattle.std.specs.Prelude.{◌≡◌, ◌∷◌, [], ℕ, Bool, IfSome, OnOk, option_map};
 ghost use Rattle.std.specs.List.{filter_map};
-ghost use Rattle.rows.specs.declared.command.Command.{Command};
-ghost use Rattle.fsm_model.specs.Words.{State};
-ghost use Rattle.group_inputs.specs.Handings.{Handing, handing};
-ghost use Rattle.raft_core.specs.StoredParts.{stored_part};
-ghost use Rattle.raft_snapshot.specs.Stored.{Stored};
-ghost use Rattle.raft_records.specs.Records.{IsDelta};
-ghost use Rattle.server_node.specs.Handed.{AreOwn, HandsAll, IsOwn};
+ghost use Rattle.group_inputs.specs.Handings.{handing};
+ghost use Rattle.timers.specs.ServerTimes.{beat_after};
+ghost use Rattle.server_node.specs.Handed.{IsOwn};
+ghost use Rattle.server_node.specs.Inner.Going.{HandedAllBy, HandedOwnBy, Leads};
 ghost use Rattle.server_node.specs.Passing.{input_due};
 
 use crate::handing::hand;
 use crate::looking::{applied, leads};
 use crate::working::{Worked, work};
 use group_inputs::ServerInput;
+use journal::Out;
 use raft_records::LogDelta;
 use rows::{NoMemory, ServerId};
-use server::{Outbox, Server};
+use server::Server;
 use std::alloc::Global;
 use timers::{Due, ServerTimers};
 use workers::ServerWorkers;
@@ -50,20 +48,20 @@ fn input_due(leader: &Option<ServerId>, due: Due) -> Option<ServerInput>
 fn do_one(
     alloc: Global,
     server: &mut Server,
+    workers: &mut ServerWorkers,
     leader: &Option<ServerId>,
     what: Due,
     change: &mut LogDelta,
-    outbox: &mut Outbox,
+    frames: &mut Vec<Out>,
 ) -> Result<(), NoMemory>
-    ensures all { OnOk result (HandsAll server.old outbox.old
-        (filter_map (input_due leader.now) (what ∷ [])) server.new outbox.new) }
-    ensures change { OnOk result ((first : Stored State Command) →
-        IsDelta change.old first (stored_part server.old.raft) →
-        IsDelta change.new first (stored_part server.new.raft)) }
+    ensures all { OnOk result (HandedAllBy server.old
+        (filter_map (input_due leader.now) (what ∷ [])) server.new frames.old.items
+        frames.new.items) }
+    ensures change { OnOk result (Leads change.old change.new server.old server.new) }
 {
     match input_due(leader, what) {
         Some(input) => {
-            hand(alloc, server, input, change, outbox)?;
+            hand(alloc, server, workers, input, change, frames)?;
             Ok(())
         }
         None => Ok(()),
@@ -74,19 +72,18 @@ fn do_one(
 pub fn do_due(
     alloc: Global,
     server: &mut Server,
+    workers: &mut ServerWorkers,
     leader: &Option<ServerId>,
     due: &[Due],
     change: &mut LogDelta,
-    outbox: &mut Outbox,
+    frames: &mut Vec<Out>,
 ) -> Result<(), NoMemory>
-    ensures all { OnOk result (HandsAll server.old outbox.old
-        (filter_map (input_due leader.now) due.now) server.new outbox.new) }
-    ensures change { OnOk result ((first : Stored State Command) →
-        IsDelta change.old first (stored_part server.old.raft) →
-        IsDelta change.new first (stored_part server.new.raft)) }
+    ensures all { OnOk result (HandedAllBy server.old (filter_map (input_due leader.now) due.now)
+        server.new frames.old.items frames.new.items) }
+    ensures change { OnOk result (Leads change.old change.new server.old server.new) }
 {
     for what in due {
-        do_one(alloc, server, leader, *what, change, outbox)?;
+        do_one(alloc, server, workers, leader, *what, change, frames)?;
     }
     Ok(())
 }
@@ -98,13 +95,11 @@ fn do_step(
     server: &mut Server,
     workers: &mut ServerWorkers,
     change: &mut LogDelta,
-    outbox: &mut Outbox,
+    frames: &mut Vec<Out>,
 ) -> Result<bool, NoMemory>
-    ensures all { OnOk result ((handed : List Handing) × AreOwn handed
-        × HandsAll server.old outbox.old handed server.new outbox.new) }
-    ensures change { OnOk result ((first : Stored State Command) →
-        IsDelta change.old first (stored_part server.old.raft) →
-        IsDelta change.new first (stored_part server.new.raft)) }
+    ensures all { OnOk result (HandedOwnBy server.old server.new frames.old.items
+        frames.new.items) }
+    ensures change { OnOk result (Leads change.old change.new server.old server.new) }
 {
     let Some(state) = server.state() else {
         return Ok(false);
@@ -113,7 +108,7 @@ fn do_step(
         Worked::Nothing => Ok(false),
         Worked::Dropped => Ok(true),
         Worked::Asks(input) => {
-            hand(alloc, server, input, change, outbox)?;
+            hand(alloc, server, workers, input, change, frames)?;
             Ok(true)
         }
     }
@@ -125,16 +120,14 @@ pub fn do_work(
     server: &mut Server,
     workers: &mut ServerWorkers,
     change: &mut LogDelta,
-    outbox: &mut Outbox,
+    frames: &mut Vec<Out>,
 ) -> Result<(), NoMemory>
-    ensures all { OnOk result ((handed : List Handing) × AreOwn handed
-        × HandsAll server.old outbox.old handed server.new outbox.new) }
-    ensures change { OnOk result ((first : Stored State Command) →
-        IsDelta change.old first (stored_part server.old.raft) →
-        IsDelta change.new first (stored_part server.new.raft)) }
+    ensures all { OnOk result (HandedOwnBy server.old server.new frames.old.items
+        frames.new.items) }
+    ensures change { OnOk result (Leads change.old change.new server.old server.new) }
 {
     'steps: for _ in 0..WORKER_STEPS {
-        if !do_step(alloc, server, workers, change, outbox)? {
+        if !do_step(alloc, server, workers, change, frames)? {
             return Ok(());
         }
     }
@@ -145,19 +138,21 @@ pub fn do_work(
 pub fn do_beat(
     alloc: Global,
     server: &mut Server,
+    workers: &mut ServerWorkers,
     timers: &mut ServerTimers,
     ms: u32,
     change: &mut LogDelta,
-    outbox: &mut Outbox,
+    frames: &mut Vec<Out>,
 ) -> Result<(), NoMemory>
-    ensures all { OnOk result ((handed : List Handing) × AreOwn handed
-        × HandsAll server.old outbox.old handed server.new outbox.new) }
-    ensures change { OnOk result ((first : Stored State Command) →
-        IsDelta change.old first (stored_part server.old.raft) →
-        IsDelta change.new first (stored_part server.new.raft)) }
+    ensures all { OnOk result (HandedOwnBy server.old server.new frames.old.items
+        frames.new.items) }
+    ensures timers { OnOk result ((leads : Bool) × (last : ℕ) × (applied : ℕ)
+        × (timers.new ≡ beat_after ms timers.old leads last applied)) }
+    ensures change { OnOk result (Leads change.old change.new server.old server.new) }
 {
-    if timers.beat(ms, leads(server), server.last(), applied(server)) {
-        hand(alloc, server, ServerInput::Beat, change, outbox)?;
+    let beats = timers.beat(ms, leads(server), server.last(), applied(server));
+    if beats {
+        hand(alloc, server, workers, ServerInput::Beat, change, frames)?;
         return Ok(());
     }
     Ok(())

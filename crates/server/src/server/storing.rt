@@ -43,13 +43,6 @@ impl Server {
         })
     }
 
-    /// Its part of the log: what a process writes to its journal is found there.
-    pub fn log(&self) -> &Raft<Cluster>
-        ensures { result.now ≡ self.now.raft }
-    {
-        &self.raft
-    }
-
     /// What it stores; the rest is gone.
     pub fn into_stable(self) -> Stable<Cluster>
         ensures shown { result ≡ stored_part self.raft }

@@ -1,13 +1,17 @@
-use Rattle.std.proofs.Common.{◌∷◌, []}
 use Rattle.group_inputs.specs.declared.server_input.ServerInput.TheVariants as inputs
 use Rattle.group_inputs.specs.Handings.{handing}
-use Rattle.server_node.proofs.HandedIn.{hands_none, hands_one}
+use Rattle.server_node.proofs.HandedIn.{owns_none, owns_one}
 use Rattle.server_node.proofs.passing.do_beat.Goals as goal
 
 pub returns-in_ok-hand-clause-all : goal.returns-in_ok-hand-clause-all
 returns-in_ok-hand-clause-all c =
-    let h = handing inputs.Beat in
-    (h ∷ [], (tt, tt), hands_one c.args.server.now c.args.outbox.now h c.hand.new.server c.hand.new.outbox c.in_ok-hand.field-0 c.in_ok-hand.ensures.hands)
+    owns_one c.args.server.now (handing inputs.Beat) c.hand.new.server c.args.workers.now c.hand.new.workers c.args.frames.now.items c.hand.new.frames.items c.in_ok-hand.field-0 tt c.in_ok-hand.ensures.hands
 
-pub returns-else-beat-clause-all : goal.returns-else-beat-clause-all
-returns-else-beat-clause-all c = ([], tt, hands_none c.args.server.now c.args.outbox.now)
+pub returns-in_ok-hand-clause-timers : goal.returns-in_ok-hand-clause-timers
+returns-in_ok-hand-clause-timers c = (c.leads.result, c.last.result, c.applied.result, c.beat-beats.ensures.later)
+
+pub returns-clause-all : goal.returns-clause-all
+returns-clause-all c = owns_none c.args.server.now c.args.frames.now.items
+
+pub returns-clause-timers : goal.returns-clause-timers
+returns-clause-timers c = (c.leads.result, c.last.result, c.applied.result, c.beat-beats.ensures.later)

@@ -1,13 +1,13 @@
-use Rattle.std.proofs.Common.{◌≡◌, ◌++◌, ◌∷◌, [], ap, subst, take, take_all}
+use Rattle.std.proofs.Common.{◌++◌, ◌∷◌, [], subst, take, take_all}
 use Rattle.std.specs.List.{filter_map}
-use Rattle.server_node.specs.Handed.{HandsAll}
+use Rattle.server_node.specs.Inner.Going.{HandedAllBy}
 use Rattle.server_node.specs.Passing.{input_due}
 use Rattle.server_node.proofs.HandedIn.{hands_both, hands_none}
 use Rattle.server_node.proofs.Passed.{due_more}
 use Rattle.server_node.proofs.passing.do_due.Goals as goal
 
 pub loop-what-init : goal.loop-what-init
-loop-what-init c = record { all = hands_none c.args.server.now c.args.outbox.now; kept = λ first led. led }
+loop-what-init c = record { all = hands_none c.args.server.now c.args.frames.now.items; kept = λ first led. led }
 
 pub loop-what-preserved : goal.loop-what-preserved
 loop-what-preserved c =
@@ -17,13 +17,13 @@ loop-what-preserved c =
     let what = c.what-item.result in
     record {
       all =
-          subst (λ hs. HandsAll c.args.server.now c.args.outbox.now hs c.do_one.new.server c.do_one.new.outbox) (due_more leader due i what c.loop-what-test.true c.what-item.is)
-          (hands_both c.args.server.now c.args.outbox.now (filter_map (input_due leader) (take i due)) c.loop-what.server c.loop-what.outbox (filter_map (input_due leader) (what ∷ []))
-          c.do_one.new.server c.do_one.new.outbox c.loop-what.invariant.all c.in_ok-do_one.ensures.all);
+          subst (λ hs. HandedAllBy c.args.server.now hs c.do_one.new.server c.args.frames.now.items c.do_one.new.frames.items) (due_more leader due i what c.loop-what-test.true c.what-item.is)
+          (hands_both c.args.server.now c.args.frames.now.items (filter_map (input_due leader) (take i due)) c.loop-what.server c.loop-what.frames.items (filter_map (input_due leader) (what ∷ []))
+          c.do_one.new.server c.do_one.new.frames.items c.loop-what.invariant.all c.in_ok-do_one.ensures.all);
       kept = λ first led. c.in_ok-do_one.ensures.change first (c.loop-what.invariant.kept first led);
     }
 
 pub returns-clause-all : goal.returns-clause-all
 returns-clause-all c =
-    subst (λ due. HandsAll c.args.server.now c.args.outbox.now (filter_map (input_due c.args.leader.now) due) c.loop-what.server c.loop-what.outbox)
+    subst (λ due. HandedAllBy c.args.server.now (filter_map (input_due c.args.leader.now) due) c.loop-what.server c.args.frames.now.items c.loop-what.frames.items)
     (take_all c.loop-what.what-index c.args.due.now c.loop-what-test.false) c.loop-what.invariant.all
