@@ -1,18 +1,14 @@
 -- What a server keeps of its log.
-use Rattle.std.proofs.Common.{◌≡◌, ◌∙◌, ℕ, suc, ◌+◌, ◌++◌, ◌∷◌, [], List, Result, Ok, Err, ap, arith, length, length-append, subst, sym}
-use Rattle.std.specs.Prelude.{IfOk, OnOk}
+use Rattle.std.proofs.Common.{◌≡◌, ◌∙◌, ℕ, ◌++◌, ◌∷◌, [], Result, Ok, Err, ap, arith, length, length-append, subst, sym}
+use Rattle.std.specs.Prelude.{OnOk}
 use Rattle.rows.specs.declared.command.Command.{Command}
 use Rattle.rows.specs.declared.refusal.Refusal.{Refusal}
-use Rattle.machine_model.specs.declared.entry.Entry.{Entry}
 use Rattle.fsm_model.specs.Words.{State}
-use Rattle.fsm_model.specs.ClusterMachine.{cluster_spec}
 use Rattle.raft_model.specs.Rafts.{Raft, extended}
-use Rattle.raft_snapshot.specs.Bases.{Base}
 use Rattle.raft_snapshot.specs.Changes.{TermsTell}
 use Rattle.raft_snapshot.proofs.TermsOfMerges.{tells_same, tells_more}
 use Rattle.raft_core.specs.RaftView.{RaftView, SameRaft}
 use Rattle.raft_core.specs.StoredParts.{KeepsLog}
-use Rattle.raft_core.specs.Steps.{RefinesRaft}
 use Rattle.raft_core.specs.Tickets.{IsTicket}
 use Rattle.server.specs.Keeping.{IsLastEntry}
 
