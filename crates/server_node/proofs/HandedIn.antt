@@ -23,12 +23,10 @@ use Rattle.server.specs.declared.server.Outbox.{Outbox}
 use Rattle.server.specs.ServerViews.{ServerView, RefinesServer, SameServer}
 use Rattle.server.specs.Answers.{HandedIn}
 use Rattle.server.specs.Keeping.{MayKeepHanding}
-use Rattle.server.specs.Refusals.{HandingStays, IsHandingRefused}
-use Rattle.actor.specs.Answers.{nothing_sent}
-use Rattle.actor.specs.Refusals.{ServerRefuses}
+use Rattle.server.specs.Refusals.{HandingStays, IsHandingRefused, handing_refusal}
 use Rattle.workers.specs.PlanCounts.{WorkersView}
 use Rattle.server_node.specs.Answers.{sends}
-use Rattle.server_node.specs.Handed.{AreOwn, Hands, HandsAll, IsOwn}
+use Rattle.server_node.specs.Handed.{AreOwn, Hands, HandsAll, IsOwn, nothing_sent}
 use Rattle.server_node.specs.Inner.Going.{HandedAllBy, HandedBy, HandedOwnBy, Leads, Puts}
 use Rattle.server_node.specs.Inner.Outcomes.{StandsWhereTaken, is_compact, is_memory}
 use Rattle.server_node.specs.Turns.{Enqueues}
@@ -42,7 +40,7 @@ taken_hands old given new none sent workers later frames framed nothing got comp
     let here = subst (λ o. HandedIn old given (Ok tt) new o sent) nothing got in
     record {
       sent = sent;
-      hands = (record { same = here.same; admitted = here.admitted; taken = here.taken }, compacted);
+      hands = record { same = here.same; admitted = here.admitted; taken = here.taken; compacted = compacted };
       put = put;
       waiting = work.waiting;
       plans = work.plans;
@@ -60,7 +58,7 @@ stays_same : (old : ServerView) (given : Handing) (cause : Refusal) (new : Serve
 stays_same old given refusals.NoMemory new other stays = let both : true ≡ false = other in absurd (cc both)
 stays_same old given _ new other stays = stays
 
-refuses : (old : ServerView) (given : Handing) (cause : Refusal) → is_memory cause ≡ false → ((s : Server) → RefinesServer old s → IsHandingRefused old.raft.size old.raft.me s given cause) → ServerRefuses old given cause
+refuses : (old : ServerView) (given : Handing) (cause : Refusal) → is_memory cause ≡ false → ((s : Server) → RefinesServer old s → IsHandingRefused old.raft.size old.raft.me s given cause) → (s : Server) → RefinesServer old s → handing_refusal old.raft.size old.raft.me s given ≡ Some cause
 refuses old given refusals.NoMemory other why = let both : true ≡ false = other in absurd (cc both)
 refuses old given _ other why = why
 
@@ -81,7 +79,7 @@ module _ (old : ServerView) (given : Handing) (new : ServerView) (none sent : Ou
       subst (HandedBy old given new workers workers frames frames) (sym how.0)
       (record {
         sent = nothing_sent;
-        hands = (stays_same old given cause new how.1 got.stays, refuses old given cause how.1 got.refused, refl);
+        hands = record { same = stays_same old given cause new how.1 got.stays; why = refuses old given cause how.1 got.refused; nothing = refl };
         put = sym (append-nil (map output_event frames));
         waiting = sym (append-nil workers.waiting);
         plans = refl;

@@ -2,6 +2,6 @@ pub mod ReadItems
 pub mod HandedIn
 pub mod Passed
 pub mod Sending
-pub mod Looking
-pub mod Settling
+pub mod Looks
+pub mod Tickets
 pub mod Serving

@@ -20,6 +20,8 @@ use Rattle.group_model.specs.Servers.{Server}
 use Rattle.group_inputs.specs.Handings.{Handing, FrameBytes, OwnInput}
 use Rattle.server.specs.ServerViews.{ServerView, RefinesServer}
 use Rattle.timers.specs.ServerTimes.{ServerTimes, Sights, beat_after, due_after, looks, times_after}
+use Rattle.timers.specs.declared.due.Seen.{Seen}
+use Rattle.timers.specs.declared.watch.Sighting.{Sighting}
 use Rattle.workers.specs.PlanCounts.{WorkersView}
 use Rattle.server_node.specs.declared.asked.Asked.{Asked}
 use Rattle.server_node.specs.Answers.{IsTicketOf, Settles, answer, placed_text, proposal_word, refused_line, refused_text, sends, status_text}
@@ -106,6 +108,13 @@ module _ (item : List ℕ) (old : NodeView) (server : ServerView) (workers : Wor
           asked = refl;
           kept = leads;
         })
+
+-- what timers saw is what they see of these
+pub seen_so : {X : Type 0} (f : Seen → Sights → X) (server : ServerView) (workers : WorkersView) (timers : ServerTimes) (asked : List Asked) (idle leads : Bool) (term : ℕ) (nodes deliveries near far : List Sighting) (emptied drained : List ℕ)
+    → leads ≡ is_leader server.raft.server.mode → term ≡ server.raft.server.term → nodes ≡ near → deliveries ≡ far → emptied ≡ drained
+    → f (record { leads = leads; term = term; idle = idle }) (record { nodes = nodes; deliveries = deliveries; drained = emptied }) ≡ f (seen_of (node server workers timers asked) idle) (record { nodes = near; deliveries = far; drained = drained })
+seen_so f server workers timers asked idle leads term nodes deliveries near far emptied drained a b n d e =
+    λ k. f (record { leads = a k; term = b k; idle = idle }) (record { nodes = n k; deliveries = d k; drained = e k })
 
 -- ---- time: what is due, then what workers ask, and then a beat
 

@@ -1,5 +1,5 @@
 -- The items of the input of a server's process.
-use Rattle.std.specs.Prelude.{◌≡◌, ◌==◌, ◌&&◌, ◌||◌, ◌≤◌, ℕ, Bool, true, not, nat_lt, List, length, drop, take, slice_index, Ok}
+use Rattle.std.specs.Prelude.{◌≡◌, ◌==◌, ◌&&◌, ◌||◌, ◌≤◌, ℕ, Bool, true, false, not, nat_lt, List, length, drop, take, slice_index, Ok}
 use Rattle.fields_model.specs.Format.{◌then◌, whole}
 use Rattle.fields_model.specs.Fields.{index, term, u32, u64}
 use Rattle.rows.specs.declared.request.OperatorRequest.{OperatorRequest}

@@ -10,21 +10,21 @@ ghost use Rattle.raft_snapshot.specs.Stored.{Stored};
 ghost use Rattle.raft_records.specs.Records.{IsDelta};
 ghost use Rattle.raft_records.specs.Remembering.{Remembers};
 ghost use Rattle.server_node.specs.Answers.{sends};
-ghost use Rattle.server_node.specs.Handed.{IsOwn};
+ghost use Rattle.server_node.specs.Handed.{IsOwn, nothing_sent};
 ghost use Rattle.server_node.specs.Inner.Going.{HandedBy, Leads, Puts};
 ghost use Rattle.server_node.specs.Inner.Outcomes.{StandsWhereTaken, is_compact, is_memory};
 ghost use Rattle.server_node.specs.Turns.{Enqueues};
 
 use crate::answers::put_frames;
-use actor::no_output;
 use fsm_state::Cluster;
 use group_inputs::ServerInput;
 use journal::Out;
 use raft_core::Raft;
 use raft_records::{Before, LogDelta, changed, joined, remember};
-use rows::{NoMemory, Refusal};
+use rows::{NoMemory, Refusal, Sequence};
 use server::{Outbox, Server};
 use std::alloc::Global;
+use wire::Frames;
 use workers::ServerWorkers;
 
 /// Whether it is want of memory.
@@ -90,6 +90,16 @@ fn delta_of(log: &Raft<Cluster>, compacts: bool, before: &Option<Before>) -> Log
     match before {
         Some(before) => changed(log, before),
         None => LogDelta::Whole,
+    }
+}
+
+/// Room for what a step sends.
+fn no_output(alloc: Global) -> Outbox
+    ensures { result ≡ nothing_sent }
+{
+    Outbox {
+        frames: Frames::new(alloc),
+        work: Sequence::new(alloc),
     }
 }
 

@@ -12,7 +12,7 @@ ghost use Rattle.server_node.specs.Items.{IsLine, IsQuestion, IsRequestLine, IsS
 ghost use Rattle.server_node.specs.Laws.Outputs.{outputs_alone};
 ghost use Rattle.server_node.specs.Nodes.{NodeView};
 ghost use Rattle.server_node.specs.Sights.{Sees};
-ghost use Rattle.server_node.specs.Turns.{MayWaitAnew, Turn, stored_by};
+ghost use Rattle.server_node.specs.Turns.{MayWaitAnew, Turn, stored_by, ticket_list};
 
 use crate::answers::{
     placed_text, proposal_word, put_answer, put_line, refused_text, status_text,
@@ -69,6 +69,20 @@ fn put_all(answers: Vec<Out>, outs: &mut Vec<Out>) -> Result<(), NoMemory>
         outs.push(answer)?;
     }
     Ok(())
+}
+
+/// Puts a ticket, if there is one, behind the others.
+fn with_ticket(asked: Vec<Asked>, ticket: Option<Asked>) -> Result<Vec<Asked>, NoMemory>
+    ensures { IfOk result (λ all. all.items ≡ asked.items ++ ticket_list ticket) }
+{
+    let mut all = asked;
+    match ticket {
+        Some(ticket) => {
+            all.push(ticket)?;
+            Ok(all)
+        }
+        None => Ok(all),
+    }
 }
 
 /// Whether a frame that was taken tells of a leader: it is one of its Appends or Installs.
@@ -367,11 +381,8 @@ impl ServerNode {
     ) -> Result<(), NoMemory>
         ensures { OnOk result (ToldBy self.old self.new answers.old.items answers.new.items ticket) }
     {
-        let mut open = settle(alloc, &self.server, self.asked.as_slice(), answers)?;
-        if let Some(asked) = ticket {
-            open.push(asked)?;
-        }
-        self.asked = open;
+        let left = settle(alloc, &self.server, self.asked.as_slice(), answers)?;
+        self.asked = with_ticket(left, ticket)?;
         Ok(())
     }
 }

@@ -30,8 +30,8 @@ pub fn settle(
     asked: &[Asked],
     answers: &mut Vec<Out>,
 ) -> Result<Vec<Asked>, NoMemory>
-    ensures { IfOk result (λ open. (told : List IoEvent)
-        × Settles server.now asked.now told open.items
+    ensures { IfOk result (λ left. (told : List IoEvent)
+        × Settles server.now asked.now told left.items
         × (map output_event answers.new.items ≡ map output_event answers.old.items ++ told)) }
 {
     let mut open = Vec::new(alloc);

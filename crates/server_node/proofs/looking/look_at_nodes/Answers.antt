@@ -2,7 +2,7 @@ use Rattle.std.proofs.Common.{◌∙◌, sym, ap, append-nil, ◌++◌}
 use Rattle.std.specs.List.{filter_map}
 use Rattle.fsm_tables.specs.Runs.{rows_left}
 use Rattle.server_node.specs.Sights.{heard_node}
-use Rattle.server_node.proofs.Looking.{found, passed}
+use Rattle.server_node.proofs.Looks.{found, passed}
 use Rattle.server_node.proofs.looking.look_at_nodes.Goals as goal
 
 pub returns : goal.returns

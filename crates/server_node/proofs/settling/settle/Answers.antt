@@ -1,7 +1,7 @@
 use Rattle.std.proofs.Common.{◌≡◌, ◌∙◌, ◌++◌, ◌∷◌, [], ap, append-nil, append_assoc, map, subst, sym, take, take_all}
 use Rattle.journal.specs.Savings.{output_event}
 use Rattle.server_node.specs.Answers.{Settles, answer, placed_text, proposal_word}
-use Rattle.server_node.proofs.Settling.{settles_none, settles_not, settles_one}
+use Rattle.server_node.proofs.Tickets.{settles_none, settles_not, settles_one}
 use Rattle.server_node.proofs.settling.settle.Goals as goal
 
 pub loop-ticket-init : goal.loop-ticket-init
