@@ -3,12 +3,9 @@ use Rattle.group_inputs.specs.Handings.{handing}
 use Rattle.server_node.proofs.HandedIn.{owns_none, owns_one}
 use Rattle.server_node.proofs.passing.do_beat.Goals as goal
 
-pub returns-in_ok-hand-clause-all : goal.returns-in_ok-hand-clause-all
-returns-in_ok-hand-clause-all c =
+pub returns-then-beats-clause-all : goal.returns-then-beats-clause-all
+returns-then-beats-clause-all c =
     owns_one c.args.server.now (handing inputs.Beat) c.hand.new.server c.args.workers.now c.hand.new.workers c.args.frames.now.items c.hand.new.frames.items c.in_ok-hand.field-0 tt c.in_ok-hand.ensures.hands
-
-pub returns-in_ok-hand-clause-timers : goal.returns-in_ok-hand-clause-timers
-returns-in_ok-hand-clause-timers c = (c.leads.result, c.last.result, c.applied.result, c.beat-beats.ensures.later)
 
 pub returns-clause-all : goal.returns-clause-all
 returns-clause-all c = owns_none c.args.server.now c.args.frames.now.items

@@ -1,4 +1,6 @@
+use Rattle.std.proofs.Common.{subst}
 use Rattle.group_inputs.specs.Handings.{handing}
+use Rattle.server_node.specs.Working.{AsksOwn}
 use Rattle.server_node.proofs.HandedIn.{owns_none, owns_one}
 use Rattle.server_node.proofs.passing.do_step.Goals as goal
 
@@ -11,6 +13,6 @@ returns-in-Nothing-clause-all c = owns_none c.args.server.now c.args.frames.now.
 pub returns-in-Dropped-clause-all : goal.returns-in-Dropped-clause-all
 returns-in-Dropped-clause-all c = owns_none c.args.server.now c.args.frames.now.items
 
-pub returns-in_ok-hand-clause-all : goal.returns-in_ok-hand-clause-all
-returns-in_ok-hand-clause-all c =
-    owns_one c.args.server.now (handing c.in-Asks.input) c.hand.new.server c.work.new.workers c.hand.new.workers c.args.frames.now.items c.hand.new.frames.items c.in_ok-hand.field-0 c.hand-requires c.in_ok-hand.ensures.hands
+pub returns-in_ok-hand-in-Asks-clause-all : goal.returns-in_ok-hand-in-Asks-clause-all
+returns-in_ok-hand-in-Asks-clause-all c =
+    owns_one c.args.server.now (handing c.in-Asks.input) c.hand.new.server c.work.new.workers c.hand.new.workers c.args.frames.now.items c.hand.new.frames.items c.in_ok-hand-in-Asks.field-0 (subst AsksOwn c.in-Asks.is c.in_ok-work.ensures) c.in_ok-hand-in-Asks.ensures.hands

@@ -10,9 +10,6 @@ steps-preserved c = record {
   kept = λ first led. c.in_ok-do_step.ensures.change first (c.steps.invariant.kept first led);
 }
 
-pub returns-then-not-do_step-clause-all : goal.returns-then-not-do_step-clause-all
-returns-then-not-do_step-clause-all c =
+pub returns-then-not-branch-clause-all : goal.returns-then-not-branch-clause-all
+returns-then-not-branch-clause-all c =
     owns_both c.args.server.now c.args.frames.now.items c.steps.server c.steps.frames.items c.do_step.new.server c.do_step.new.frames.items c.steps.invariant.all c.in_ok-do_step.ensures.all
-
-pub returns-then-not-do_step-clause-change : goal.returns-then-not-do_step-clause-change
-returns-then-not-do_step-clause-change c = λ first led. c.in_ok-do_step.ensures.change first (c.steps.invariant.kept first led)
