@@ -1,5 +1,5 @@
 //! One server of the group as an actor. What it is asked, and what it answers, are items of bytes.
-ghost use Rattle.std.specs.Prelude.{◌≡◌, ◌++◌, [], true, false, ℕ, List, IfOk, OnOk, None, Some, map};
+ghost use Rattle.std.specs.Prelude.{◌≡◌, ◌∷◌, ◌++◌, [], true, false, ℕ, List, IfOk, OnOk, None, Some, codes, length, map};
 ghost use Rattle.fsm_model.specs.ClusterMachine.{cluster_spec};
 ghost use Rattle.raft_model.specs.Rafts.{is_leader};
 ghost use Rattle.raft_records.specs.Records.{IsDelta, raft_replay};
@@ -7,7 +7,10 @@ ghost use Rattle.journal.specs.Events.{IoEvent, AreOutputs};
 ghost use Rattle.journal.specs.Replays.{Replay};
 ghost use Rattle.journal.specs.Savings.{output_event, IsSaving};
 ghost use Rattle.journal.specs.declared.storing.Out.{Out as AnyOut};
-ghost use Rattle.server_node.specs.Inner.Going.{ToldBy, WentBy};
+ghost use Rattle.group_model.specs.Servers.{Server as AnyServer};
+ghost use Rattle.server.specs.ServerViews.{RefinesServer};
+ghost use Rattle.server_node.specs.Answers.{answer, placed_text, refused_text};
+ghost use Rattle.server_node.specs.Inner.Going.{Puts, ToldBy, WentBy};
 ghost use Rattle.server_node.specs.Items.{IsLine, IsQuestion, IsRequestLine, IsStatus, IsTime, is_frame};
 ghost use Rattle.server_node.specs.Laws.Outputs.{outputs_alone};
 ghost use Rattle.server_node.specs.Nodes.{NodeView};
@@ -95,6 +98,42 @@ fn has_heard(server: &Server, frame: &[u8], vote: Option<ServerId>) -> bool {
     let log = server.raft();
     let voted = log.vote().is_some() && log.vote() != vote;
     voted || (is_of_leader(frame) && log.known_leader().is_some())
+}
+
+/// Why there is no ticket is answered.
+fn refuse(
+    alloc: Global,
+    id: u64,
+    cause: Refusal,
+    answers: &mut Vec<Out>,
+) -> Result<Option<Asked>, NoMemory>
+    ensures { IfOk result (λ ticket. (ticket ≡ None) × Puts answers.old.items answers.new.items
+        (answer id (refused_text cause) ∷ [])) }
+{
+    let text = refused_text(alloc, cause)?;
+    put_answer(alloc, id, text.as_slice(), answers)?;
+    Ok(None)
+}
+
+/// The ticket of the last entry is answered.
+fn tell_ticket(
+    alloc: Global,
+    id: u64,
+    server: &Server,
+    answers: &mut Vec<Out>,
+) -> Result<Option<Asked>, NoMemory>
+    ensures { IfOk result (λ ticket. (index : ℕ) × (term : ℕ)
+        × (ticket ≡ Some (record { id = id; index = index; term = term }))
+        × ((s : AnyServer) → RefinesServer server.now s →
+        (index ≡ length s.raft.log) × (term ≡ s.raft.term))
+        × Puts answers.old.items answers.new.items
+        (answer id (placed_text (codes "ticket") index term) ∷ [])) }
+{
+    let index = server.last();
+    let term = server.term();
+    let text = placed_text(alloc, "ticket", index.get(), term.get())?;
+    put_answer(alloc, id, text.as_slice(), answers)?;
+    Ok(Some(Asked { id, index, term }))
 }
 
 /// Where it heard of a leader another wait for one begins.
@@ -274,18 +313,8 @@ impl ServerNode {
             frames,
         )?;
         match told {
-            Some(cause) => {
-                let text = refused_text(alloc, cause)?;
-                put_answer(alloc, id, text.as_slice(), answers)?;
-                Ok(None)
-            }
-            None => {
-                let index = self.server.last();
-                let term = self.server.term();
-                let text = placed_text(alloc, "ticket", index.get(), term.get())?;
-                put_answer(alloc, id, text.as_slice(), answers)?;
-                Ok(Some(Asked { id, index, term }))
-            }
+            Some(cause) => refuse(alloc, id, cause, answers),
+            None => tell_ticket(alloc, id, &self.server, answers),
         }
     }
 
