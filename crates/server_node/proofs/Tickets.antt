@@ -15,9 +15,9 @@ use Rattle.server_node.specs.Answers.{IsAnswer, Settles, answer, is_open, is_set
 pub settles_none : (server : ServerView) → Settles server [] [] []
 settles_none server = record { answers = tt; all = λ s is. refl; others = λ s is. refl }
 
-one_more : {P : IoEvent → Type 0} (events : List IoEvent) (event : IoEvent) → AllByRecursion P events → P event → AllByRecursion P (events ++ event ∷ [])
-one_more [] event all one = (one, tt)
-one_more (e ∷ events) event all one = (all.0, one_more events event all.1 one)
+one_more : (P : IoEvent → Type 0) (events : List IoEvent) (event : IoEvent) → AllByRecursion P events → P event → AllByRecursion P (events ++ event ∷ [])
+one_more P [] event all one = (one, tt)
+one_more P (e ∷ events) event all one = (all.0, one_more P events event all.1 one)
 
 one_settled : (s : Raft Command) (a : Asked) (status : Option ProposalStatus) → status ≡ status_of s a → is_settled status ≡ true → settled s a ≡ Some (answer a.id (placed_text (proposal_word status) a.index a.term))
 one_settled s a status stands is =
@@ -46,7 +46,7 @@ module _ (server : ServerView) (asked : List Asked) (i : ℕ) (a : Asked) (withi
   settles_one is =
       let event = answer a.id (placed_text (proposal_word status) a.index a.term) in
       record {
-        answers = one_more told event so_far.answers (a.id, placed_text (proposal_word status) a.index a.term, refl);
+        answers = one_more IsAnswer told event so_far.answers (a.id, placed_text (proposal_word status) a.index a.term, refl);
         all = λ s r.
             ap (λ l. l ++ event ∷ []) (so_far.all s r)
             ∙ sym (ap (λ o. filter_map (settled s.raft) (take i asked) ++ cons_option o []) (one_settled s.raft a status (stands s r) is)) ∙ sym (told_longer s.raft);

@@ -75,11 +75,7 @@ fn heard_node(expiry: &Expiry, row: &Node) -> Option<Sighting>
 }
 
 /// The nodes of a state whose heartbeats are counted.
-fn look_at_nodes(
-    alloc: Global,
-    state: &Cluster,
-    expiry: &Expiry,
-) -> Result<Vec<Sighting>, NoMemory>
+fn look_at_nodes(alloc: Global, state: &Cluster, expiry: &Expiry) -> Result<Vec<Sighting>, NoMemory>
     ensures { IfOk result (λ seen.
         seen.items ≡ filter_map (heard_node expiry.now) state.now.nodes) }
 {

@@ -17,9 +17,7 @@ ghost use Rattle.server_node.specs.Nodes.{NodeView};
 ghost use Rattle.server_node.specs.Sights.{Sees};
 ghost use Rattle.server_node.specs.Turns.{MayWaitAnew, Turn, stored_by, ticket_list};
 
-use crate::answers::{
-    placed_text, proposal_word, put_answer, put_line, refused_text, status_text,
-};
+use crate::answers::{placed_text, proposal_word, put_answer, put_line, refused_text, status_text};
 use crate::asked::Asked;
 use crate::handing::{bring, hand};
 use crate::items::{is_frame, read_line, read_question, read_request, read_status, read_time};

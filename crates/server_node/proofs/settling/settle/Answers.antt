@@ -5,7 +5,7 @@ use Rattle.server_node.proofs.Tickets.{settles_none, settles_not, settles_one}
 use Rattle.server_node.proofs.settling.settle.Goals as goal
 
 pub loop-ticket-init : goal.loop-ticket-init
-loop-ticket-init c = ([], settles_none c.args.server.now, sym (append-nil (map output_event c.args.answers.now.items)))
+loop-ticket-init c = ([], subst (λ l. Settles c.args.server.now [] [] l) (sym c.new-open.ensures.items) (settles_none c.args.server.now), sym (append-nil (map output_event c.args.answers.now.items)))
 
 pub returns : goal.returns
 returns c =

@@ -15,6 +15,6 @@ returns c =
       settled = got.0;
       left = left;
       settles = subst (λ (v : NodeView). Settles v.server v.asked got.0 left) c.self.view_is (subst (λ l. Settles i.server l got.0 left) c.as_slice.ensures.value got.1);
-      asked = c.in_ok-with_ticket.ensures;
+      asked = c.in_ok-self-inside.ensures;
       put = got.2;
     }
