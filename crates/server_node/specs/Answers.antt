@@ -2,7 +2,10 @@
 use Rattle.std.specs.Prelude.{◌≡◌, ◌⊎◌, ℕ, Option, Some, None, List, [], ◌∷◌, ◌++◌, codes, decimal, length, map}
 use Rattle.std.specs.List.{Contains}
 use Rattle.fields_model.specs.Format.{spelled}
+use Rattle.fields_model.specs.StateText.{state}
 use Rattle.rows.specs.Requests.{command_of}
+use Rattle.rows.specs.State.{State}
+use Rattle.rows.specs.Versions.{newest}
 use Rattle.rows.specs.Words.{refusal_words}
 use Rattle.rows.specs.Refusals.{number_of}
 use Rattle.rows.specs.declared.refusal.Refusal.{Refusal}
@@ -14,6 +17,7 @@ use Rattle.raft_core.specs.declared.role.Role.{Role}
 use Rattle.raft_core.specs.declared.role.Role.TheVariants.{Follower, Candidate, Leader}
 use Rattle.raft_core.specs.declared.ticket.ProposalStatus.{ProposalStatus}
 use Rattle.raft_core.specs.declared.ticket.ProposalStatus.TheVariants.{Pending, Committed, Superseded, Compacted}
+use Rattle.group_model.specs.Desks.{applied_state}
 use Rattle.group_model.specs.Inputs.{Request}
 use Rattle.group_model.specs.Servers.{Server}
 use Rattle.group_inputs.specs.Handings.{OwnInput}
@@ -21,7 +25,7 @@ use Rattle.server.specs.ServerViews.{RefinesServer}
 use Rattle.actor.specs.Refusals.{ServerRefuses}
 use Rattle.journal.specs.Events.{IoEvent, BytesSent}
 use Rattle.server_node.specs.declared.asked.Asked.{Asked}
-use Rattle.server_node.specs.Items.{IsLine, IsQuestion, IsRequestLine, IsStatus}
+use Rattle.server_node.specs.Items.{IsLine, IsQuestion, IsRequestLine, IsStateAsked, IsStatus}
 use Rattle.server_node.specs.Nodes.{NodeView}
 
 -- each frame goes to the output, as an item
@@ -59,9 +63,14 @@ role_word (Some Follower) = codes "follower"
 role_word (Some Candidate) = codes "candidate"
 role_word (Some Leader) = codes "leader"
 
--- `server ROLE term T last L`
-abbrev pub status_text : Option Role → ℕ → ℕ → List ℕ
-status_text role term last = codes "server " ++ (role_word role ++ (codes " term " ++ (decimal term ++ (codes " last " ++ decimal last))))
+-- `server ROLE term T last L applied A`
+abbrev pub status_text : Option Role → ℕ → ℕ → ℕ → List ℕ
+status_text role term last applied =
+    codes "server " ++ (role_word role ++ (codes " term " ++ (decimal term ++ (codes " last " ++ (decimal last ++ (codes " applied " ++ decimal applied))))))
+
+-- the text of a state, as it stands in a frame
+abbrev pub state_text : State → List ℕ
+state_text s = (state newest).text s
 
 -- Where a command stands that an operator's line asked for.
 pub record IsTicketFor (new : NodeView) (line : List ℕ) (index term : ℕ) : Type 0 where
@@ -82,7 +91,10 @@ pub data IsAnswer (item : List ℕ) (old new : NodeView) (event : IoEvent) : Typ
       → ((s : Server) → RefinesServer new.server s → status ≡ proposal_status_of s.raft index term)
       → event ≡ answer id (placed_text (proposal_word status) index term) → IsAnswer item old new event
   stands_so : (id : ℕ) (text : List ℕ) → IsStatus item id
-      → ((s : Server) → RefinesServer new.server s → text ≡ status_text (role_of s.raft.mode) s.raft.term (length s.raft.log))
+      → ((s : Server) → RefinesServer new.server s → text ≡ status_text (role_of s.raft.mode) s.raft.term (length s.raft.log) s.raft.commit)
+      → event ≡ answer id text → IsAnswer item old new event
+  state_is : (id : ℕ) (text : List ℕ) → IsStateAsked item id
+      → ((s : Server) → RefinesServer new.server s → text ≡ state_text (applied_state s.raft))
       → event ≡ answer id text → IsAnswer item old new event
   settled : (a : Asked) (status : ProposalStatus) → Contains old.asked a ⊎ Contains new.asked a
       → ((s : Server) → RefinesServer new.server s → proposal_status_of s.raft a.index a.term ≡ Some status)

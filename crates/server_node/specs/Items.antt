@@ -10,9 +10,9 @@ use Rattle.event_texts.specs.EventLines.{IsEventLine}
 abbrev pub begins_with : ℕ → List ℕ → Bool
 begins_with letter item = nat_lt 0 (length item) && (slice_index item 0 == letter)
 
--- an item that begins with none of K, L, Q and S is a frame
+-- an item that begins with none of K, L, Q, S and V is a frame
 abbrev pub is_frame : List ℕ → Bool
-is_frame item = not (begins_with 75 item || (begins_with 76 item || (begins_with 81 item || begins_with 83 item)))
+is_frame item = not (begins_with 75 item || (begins_with 76 item || (begins_with 81 item || (begins_with 83 item || begins_with 86 item))))
 
 -- K, and in four bytes how many milliseconds passed
 pub record IsTime (item : List ℕ) (ms : ℕ) : Type 0 where
@@ -34,6 +34,11 @@ pub record IsQuestion (item : List ℕ) (id place its_term : ℕ) : Type 0 where
 -- S, and an id: how the server stands
 pub record IsStatus (item : List ℕ) (id : ℕ) : Type 0 where
   pub letter : begins_with 83 item ≡ true
+  pub read : whole u64 (drop 1 item) ≡ Ok id
+
+-- V, and an id: the state that the server has
+pub record IsStateAsked (item : List ℕ) (id : ℕ) : Type 0 where
+  pub letter : begins_with 86 item ≡ true
   pub read : whole u64 (drop 1 item) ≡ Ok id
 
 -- a scenario's line by which this server is asked that

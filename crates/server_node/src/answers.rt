@@ -1,14 +1,16 @@
 //! What is answered: an item of the output, or a line to the standard error.
 ghost use Rattle.std.specs.Prelude.{◌≡◌, ◌↔◌, ◌∷◌, ◌++◌, [], ℕ, List, IfOk, IsOk, OnOk, length, map};
 ghost use Rattle.raft_core.specs.Steps.{role_of};
+ghost use Rattle.group_model.specs.Desks.{applied_state};
 ghost use Rattle.group_model.specs.Servers.{Server as AnyServer};
 ghost use Rattle.server.specs.ServerViews.{RefinesServer};
 ghost use Rattle.wire.specs.Frames.{sized};
 ghost use Rattle.journal.specs.Events.{BytesSent, LineReported};
 ghost use Rattle.journal.specs.Savings.{output_event};
-ghost use Rattle.server_node.specs.Answers.{answer, answer_text, placed_text, proposal_word, refused_line, refused_text, role_word, sends, status_text};
+ghost use Rattle.server_node.specs.Answers.{answer, answer_text, placed_text, proposal_word, refused_line, refused_text, role_word, sends, state_text, status_text};
 
-use fields::write_u64;
+use crate::looking::applied;
+use fields::{Field, write_u64};
 use journal::{Out, item_of};
 use raft_core::{ProposalStatus, Role};
 use rows::{NoMemory, Refusal};
@@ -137,15 +139,32 @@ fn role_word(role: Option<Role>) -> &'static str
     }
 }
 
-/// `server ROLE term T last L`.
+/// `server ROLE term T last L applied A`.
 pub fn status_text(alloc: Global, server: &Server) -> Result<Vec<u8>, NoMemory>
     ensures { IfOk result (λ text. (s : AnyServer) → RefinesServer server.now s →
-        text.items ≡ status_text (role_of s.raft.mode) s.raft.term (length s.raft.log)) }
+        text.items ≡ status_text (role_of s.raft.mode) s.raft.term (length s.raft.log)
+        s.raft.commit) }
 {
     let mut text = Vec::new(alloc);
     let role = role_word(server.role());
     let term = server.term().get();
     let last = server.last().get();
-    written(write!(text, "server {role} term {term} last {last}"))?;
+    let applied = applied(server).get();
+    written(write!(
+        text,
+        "server {role} term {term} last {last} applied {applied}"
+    ))?;
+    Ok(text)
+}
+
+/// The text of the state that a server has, as it stands in a frame.
+pub fn state_text(alloc: Global, server: &Server) -> Result<Vec<u8>, NoMemory>
+    ensures { IfOk result (λ text. (s : AnyServer) → RefinesServer server.now s →
+        text.items ≡ state_text (applied_state s.raft)) }
+{
+    let mut text = Vec::new(alloc);
+    if let Some(state) = server.state() {
+        state.append(&mut text)?;
+    }
     Ok(text)
 }

@@ -8,7 +8,7 @@ ghost use Rattle.group_inputs.specs.Events.{group_event, server_input};
 ghost use Rattle.group_inputs.specs.Handings.{handing};
 ghost use Rattle.rows.specs.declared.request.OperatorRequest.{OperatorRequest as AnyRequest};
 ghost use Rattle.server_node.specs.Inner.Lines.{IsReadAs};
-ghost use Rattle.server_node.specs.Items.{IsLine, IsQuestion, IsRequestLine, IsStatus, IsTime, begins_with, is_frame};
+ghost use Rattle.server_node.specs.Items.{IsLine, IsQuestion, IsRequestLine, IsStateAsked, IsStatus, IsTime, begins_with, is_frame};
 
 use crate::handing::is_memory;
 use event_texts::read_event;
@@ -38,7 +38,8 @@ pub fn is_frame(item: &[u8]) -> bool
     ensures { result ≡ is_frame item.now }
 {
     !(begins_with(item, b'K')
-        || (begins_with(item, b'L') || (begins_with(item, b'Q') || begins_with(item, b'S'))))
+        || (begins_with(item, b'L')
+            || (begins_with(item, b'Q') || (begins_with(item, b'S') || begins_with(item, b'V')))))
 }
 
 /// The number of four bytes that is all of a text.
@@ -130,6 +131,19 @@ pub fn read_status(item: &[u8]) -> Option<u64>
     ensures { MatchOption result ((id : ℕ) → IsStatus item.now id → ⊥) (IsStatus item.now) }
 {
     if !begins_with(item, b'S') {
+        return None;
+    }
+    match read_id(behind_first(item)) {
+        Ok(id) => Some(id),
+        Err(_) => None,
+    }
+}
+
+/// The id of one who asks for the server's state.
+pub fn read_state(item: &[u8]) -> Option<u64>
+    ensures { MatchOption result ((id : ℕ) → IsStateAsked item.now id → ⊥) (IsStateAsked item.now) }
+{
+    if !begins_with(item, b'V') {
         return None;
     }
     match read_id(behind_first(item)) {

@@ -10,17 +10,20 @@ ghost use Rattle.raft_records.specs.Records.{IsDelta, raft_replay};
 ghost use Rattle.journal.specs.Events.{IoEvent, AreOutputs};
 ghost use Rattle.journal.specs.Replays.{Replay};
 ghost use Rattle.journal.specs.Savings.{output_event, IsSaving};
-ghost use Rattle.server_node.specs.Items.{IsLine, IsQuestion, IsStatus, IsTime, is_frame};
+ghost use Rattle.server_node.specs.Items.{IsLine, IsQuestion, IsStateAsked, IsStatus, IsTime, is_frame};
 ghost use Rattle.server_node.specs.Laws.Outputs.{outputs_alone};
 ghost use Rattle.server_node.specs.Nodes.{NodeView};
 ghost use Rattle.server_node.specs.Turns.{IsTold, Turn, WentBy, stored_by};
 
 use crate::answers::{
-    placed_text, proposal_word, put_answer, put_frames, put_line, refused_text, status_text,
+    placed_text, proposal_word, put_answer, put_frames, put_line, refused_text, state_text,
+    status_text,
 };
 use crate::asked::Asked;
 use crate::handing::{bring, hand, log_of};
-use crate::items::{is_frame, read_line, read_question, read_request, read_status, read_time};
+use crate::items::{
+    is_frame, read_line, read_question, read_request, read_state, read_status, read_time,
+};
 use crate::looking::{leader_of, leads, look, unseen};
 use crate::passing::{do_beat, do_due, do_work};
 use actor::no_output;
@@ -241,6 +244,22 @@ impl ServerNode {
         put_answer(alloc, id, text.as_slice(), answers)
     }
 
+    /// The state that the server has.
+    fn show_state(
+        &self,
+        alloc: Global,
+        id: u64,
+        item: &[u8],
+        answers: &mut Vec<Out>,
+    ) -> Result<(), NoMemory>
+        requires { IsStateAsked item.now id }
+        ensures { OnOk result ((more : List IoEvent) × AllByRecursion (IsTold item.now self.now self.now) more
+            × (map output_event answers.new.items ≡ map output_event answers.old.items ++ more)) }
+    {
+        let text = state_text(alloc, &self.server)?;
+        put_answer(alloc, id, text.as_slice(), answers)
+    }
+
     /// What became of the tickets of which it is known now; the others stay.
     fn tell_settled(
         &mut self,
@@ -299,8 +318,11 @@ impl ServerNode {
         if let Some((id, (index, term))) = read_question(item) {
             return self.answer(alloc, id, index, term, item, answers);
         }
-        match read_status(item) {
-            Some(id) => self.show(alloc, id, item, answers),
+        if let Some(id) = read_status(item) {
+            return self.show(alloc, id, item, answers);
+        }
+        match read_state(item) {
+            Some(id) => self.show_state(alloc, id, item, answers),
             None => put_line(alloc, Refusal::Frame(0), answers),
         }
     }
