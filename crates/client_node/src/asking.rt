@@ -6,20 +6,16 @@ use wire::Kind;
 /// After so many turns of asking without a list, all servers are asked again.
 const MOST_UNANSWERED: u8 = 3;
 
-/// The server that listed last, and how often a list was asked for since. Where none listed for a
-/// few turns all servers are asked.
+/// The number of the refusal of a server that does not lead, which may tell who does.
+const NOT_LEADER: u8 = 2;
+
+/// The server that leads, as far as is known, and how often it was asked for a list since it last
+/// answered. A server that follows lists too, but takes no heartbeat. Where none is known, or it
+/// does not answer for a few turns, all are asked.
 #[derive(Drop)]
 pub struct Asking {
-    listed: Option<ServerId>,
+    leader: Option<ServerId>,
     unanswered: u8,
-}
-
-/// The server that a frame names as its sender, where the frame is a list of allocations.
-fn lister(frame: &[u8]) -> Option<ServerId> {
-    if frame.len() < 3 || frame[1] != Kind::List.number() {
-        return None;
-    }
-    ServerId::from_number(frame[2])
 }
 
 /// Whether a list is to be asked for.
@@ -32,22 +28,46 @@ fn asks_list(due: &[ClientDue]) -> bool {
     false
 }
 
+/// Whether both are the same server.
+fn is_same(one: &Option<ServerId>, other: &Option<ServerId>) -> bool {
+    match (one, other) {
+        (Some(one), Some(other)) => one.number() == other.number(),
+        _ => false,
+    }
+}
+
 impl Asking {
-    /// None listed yet.
+    /// None is known to lead.
     pub fn new() -> Asking {
         Asking {
-            listed: None,
+            leader: None,
             unanswered: 0,
         }
     }
 
-    /// A frame came, which the agent refused or took.
+    /// A frame came, which the agent refused or took: its third byte is the server that sent it.
     pub fn note(&mut self, told: &Option<Refusal>, frame: &[u8]) {
-        if told.is_some() {
+        if told.is_some() || frame.len() < 3 {
             return;
         }
-        if let Some(server) = lister(frame) {
-            self.listed = Some(server);
+        let sender = ServerId::from_number(frame[2]);
+        if frame[1] == Kind::List.number() {
+            if is_same(&sender, &self.leader) {
+                self.unanswered = 0;
+            }
+        } else if frame[1] == Kind::Told.number() && frame.len() == 11 {
+            self.note_told(sender, frame[9], frame[10]);
+        }
+    }
+
+    /// A server tells whether it takes what it was asked: 0, or the number of a refusal, and the
+    /// leader that it knows.
+    fn note_told(&mut self, sender: Option<ServerId>, number: u8, leader: u8) {
+        if number == 0 {
+            self.leader = sender;
+            self.unanswered = 0;
+        } else if number == NOT_LEADER {
+            self.leader = ServerId::from_number(leader);
             self.unanswered = 0;
         }
     }
@@ -57,9 +77,9 @@ impl Asking {
         if asks_list(due) {
             self.unanswered = self.unanswered.saturating_add(1);
             if self.unanswered > MOST_UNANSWERED {
-                self.listed = None;
+                self.leader = None;
             }
         }
-        self.listed
+        self.leader
     }
 }
