@@ -356,7 +356,13 @@ impl Actor for ServerNode {
     ) -> Result<(), NoMemory> {
         let mut outbox = no_output(alloc);
         let mut answers = Vec::new(alloc);
+        let term = self.server.term();
         self.take_item(alloc, item, change, &mut outbox, &mut answers)?;
+        if self.server.term().get() != term.get() {
+            // No desk of another term takes what these would ask, and the index that one waits for
+            // may never come.
+            self.workers.forget();
+        }
         self.tell_settled(alloc, item, &mut answers)?;
         let Outbox { frames, work } = outbox;
         self.workers.enqueue(work)?;
