@@ -152,11 +152,10 @@ class Trouble:
 
     async def runs_settle(self, until):
         """Each live allocation runs at its node's client, and no other."""
-        while time.monotonic() < until:
-            wrongs = self.not_as_listed()
-            if not wrongs:
-                break
+        wrongs = self.not_as_listed()
+        while wrongs and time.monotonic() < until:
             await asyncio.sleep(0.2)
+            wrongs = self.not_as_listed()
         for text in wrongs[:10]:
             self.group.book.wrong(text)
         self.group.book.are_placed()
