@@ -1,33 +1,20 @@
 -- What was changed of the ids that were ever started.
-use Rattle.std.proofs.Common.{◌≡◌, ◌∙◌, ◌+◌, ◌-◌, ◌^◌, ◌<◌, ◌≤◌, ◌++◌, ◌∷◌, [], ℕ, Bool, true, false, List, Option, Some, None, Result, Ok, Err, OnOk, ap, subst, sym, arith, length, take, drop, get_or, take_all, nat_eq}
+use Rattle.std.proofs.Common.{◌≡◌, ◌∙◌, ◌+◌, ◌-◌, ◌^◌, ◌<◌, ◌≤◌, ◌++◌, ◌∷◌, [], ℕ, Bool, true, false, List, Option, Some, None, Result, Ok, Err, OnOk, ap, subst, sym, arith, length, length-append, take, drop, take_all, nat_eq}
 use Rattle.std.specs.Prelude.{if◌then◌else◌, option_map}
-use Rattle.std.proofs.lemmas.List.{length-drop, length-take-le, take-append-drop, take-take, take_more}
+use Rattle.std.proofs.Math.Seq.{take-append_seam}
+use Rattle.std.proofs.lemmas.List.{length-drop, length-take-le, take-append-drop, take-take}
 use Rattle.std.proofs.lemmas.Grind.{common_steps}
 use Rattle.rows.specs.declared.allocation.AllocId.{AllocId}
-use Rattle.fsm_model.specs.Words.{same_alloc}
 use Rattle.rows.specs.declared.refusal.NoMemory.{NoMemory}
 use Rattle.fields_model.specs.Format.{Writes, list, whole}
 use Rattle.fields_model.specs.Ids.{allocation_id}
 use Rattle.fields_model.proofs.FormatLaws.{list_lawful}
 use Rattle.fields_model.proofs.IdLaws.{allocation_id_lawful}
 use Rattle.fields_model.proofs.WholeTexts.{whole_only}
-use Rattle.client_agent.proofs.Distinct.{same_ids}
 use Rattle.client_node.specs.declared.changes.IdsChange.{IdsChange}
 use Rattle.client_node.specs.declared.changes.IdsChange.TheVariants as changes
-use Rattle.client_node.specs.Inner.Joined.{change_behind, joined_ids}
+use Rattle.client_node.specs.Inner.Joined.{change_between, joined_ids}
 use Rattle.client_node.specs.Records.{LeadsIds, ids_in, ids_read, started_replay}
-
--- ---- are they the first?
-
-pub first_more : (first ids : List AllocId) (i : ℕ) (x y : AllocId) → i < length first → i < length ids → x ≡ get_or ids i x → y ≡ get_or first i y → same_alloc x y ≡ true
-    → take i ids ≡ take i first → take (i + 1) ids ≡ take (i + 1) first
-first_more first ids i x y within there is_x is_y same so =
-    let one : take (i + 1) ids ≡ take i ids ++ x ∷ [] = take_more ids i x there ∙ ap (λ z. take i ids ++ z ∷ []) (sym is_x) in
-    let other : take (i + 1) first ≡ take i first ++ y ∷ [] = take_more first i y within ∙ ap (λ z. take i first ++ z ∷ []) (sym is_y) in
-    one ∙ ap (λ l. l ++ x ∷ []) so ∙ ap (λ z. take i first ++ z ∷ []) (same_ids x y same) ∙ sym other
-
-pub all_first : (first ids : List AllocId) (i : ℕ) → i ≡ length first → take i ids ≡ take i first → take (length first) ids ≡ first
-all_first first ids i is so = subst (λ n. take n ids ≡ take n first) is so ∙ take_all (length first) first (omega arith)
 
 -- ---- what a change says
 
@@ -38,18 +25,20 @@ behind_leads true before now same within first =
     sym first ∙ take_all (length before) now (omega (arith, one))
 behind_leads false before now same within first = (within, sym first)
 
-pub first_leads : (before now : List AllocId) → length before ≤ length now → take (length before) now ≡ before → LeadsIds (change_behind (length before) (length now)) before now
-first_leads before now within first = behind_leads (nat_eq (length now) (length before)) before now (λ i. nat_eq (length now) (length before)) within first
+-- more stand behind those that were there
+pub more_leads : (before more now : List AllocId) → now ≡ before ++ more → LeadsIds (change_between (length before) (length now)) before now
+more_leads before more now is =
+    let within : length before ≤ length now = omega (arith, ap length is, length-append before more) in
+    let first : take (length before) now ≡ before = ap (take (length before)) is ∙ take-append_seam before more in
+    behind_leads (nat_eq (length now) (length before)) before now (λ i. nat_eq (length now) (length before)) within first
 
 pub joined_leads : (a b : IdsChange) (first mid now : List AllocId) → LeadsIds a first mid → LeadsIds b mid now → LeadsIds (joined_ids a b) first now
 joined_leads changes.Nothing b first mid now one two = subst (λ l. LeadsIds b l now) (sym one) two
-joined_leads changes.Whole b first mid now one two = tt
 joined_leads (changes.Behind i) changes.Nothing first mid now one two = subst (λ l. LeadsIds (changes.Behind i) first l) two one
 joined_leads (changes.Behind i) (changes.Behind j) first mid now one two =
     let long : length mid ≡ j = ap length two.1 ∙ length-take-le j now two.0 in
     let within : i ≤ j = omega (arith, long, one.0) in
     (omega (arith, within, two.0), one.1 ∙ ap (take i) two.1 ∙ take-take i j now within)
-joined_leads (changes.Behind i) changes.Whole first mid now one two = tt
 
 -- ---- what is saved
 

@@ -1,12 +1,13 @@
 -- What is handed to the agent, one after the other.
 use Rattle.std.proofs.Common.{◌≡◌, ◌∙◌, ◌<◌, ◌+◌, ℕ, suc, Bool, false, true, Option, Some, None, Result, Ok, Err, IfOk, List, [], ◌∷◌, ◌++◌, length, map, take, ap, refl, sym, subst, append_assoc, append-nil, arith, length-append}
 use Rattle.std.proofs.lemmas.List.{map-append}
+use Rattle.rows.specs.declared.allocation.AllocId.{AllocId}
 use Rattle.rows.specs.declared.refusal.Refusal.{Refusal}
 use Rattle.rows.specs.declared.refusal.Refusal.TheVariants as refusals
 use Rattle.rows.specs.declared.refusal.NoMemory.{NoMemory}
 use Rattle.wire.specs.Frames.{Frame}
 use Rattle.group_inputs.specs.declared.client_input.ClientInput.{ClientInput}
-use Rattle.client_agent.specs.AgentView.{AgentView}
+use Rattle.client_agent.specs.AgentView.{AgentView, StartsMore}
 use Rattle.actor.specs.declared.stepped.Stepped.{Stepped}
 use Rattle.actor.specs.Answers.{ClientAnswers}
 use Rattle.actor.specs.Refusals.{ClientRefuses, RefusedSo}
@@ -19,12 +20,30 @@ refused_says refusals.NoMemory lack says other why = let both : true ≡ false =
 refused_says _ lack says other why = why
 
 pub handed_so : (old : AgentView) (given : ClientInput) (new : AgentView) (before after : List Frame) (done : Result Stepped Refusal) (r : Result (Option Refusal) NoMemory)
-    → ClientAnswers old given before done new after → IfOk r (IsOutcome done) → IfOk r (Hands old given new before after)
-handed_so old given new before after done (Err e) answers how = tt
-handed_so old given new before after done (Ok None) answers how = subst (λ d. ClientAnswers old given before d new after) how answers
-handed_so old given new before after done (Ok (Some cause)) answers how =
+    → ClientAnswers old given before done new after → StartsMore old new → IfOk r (IsOutcome done) → IfOk r (Hands old given new before after)
+handed_so old given new before after done (Err e) answers grows how = tt
+handed_so old given new before after done (Ok None) answers grows how = (subst (λ d. ClientAnswers old given before d new after) how answers, grows)
+handed_so old given new before after done (Ok (Some cause)) answers grows how =
     let here = subst (λ d. ClientAnswers old given before d new after) how.0 answers in
     (here.0, refused_says cause ⊥ (ClientRefuses old given) how.1 here.1, here.2)
+
+-- ---- none is forgotten
+
+more_both : (old mid new : AgentView) → StartsMore old mid → StartsMore mid new → StartsMore old new
+more_both old mid new one two =
+    (one.0 ++ two.0, two.1 ∙ ap (λ (l : List AllocId). l ++ two.0) one.1 ∙ append_assoc old.client.started one.0 two.0)
+
+same_more : (old new : AgentView) → new ≡ old → StartsMore old new
+same_more old new same = ([], ap (λ (a : AgentView). a.client.started) same ∙ sym (append-nil old.client.started))
+
+pub one_more : (old : AgentView) (given : ClientInput) (new : AgentView) (before after : List Frame) (told : Option Refusal) → Hands old given new before after told → StartsMore old new
+one_more old given new before after None hands = hands.1
+one_more old given new before after (Some cause) hands = same_more old new hands.0
+
+pub all_more : (old : AgentView) (before : List Frame) (handed : List ClientInput) (new : AgentView) (after : List Frame) → HandsAll old before handed new after → StartsMore old new
+all_more old before [] new after hands = same_more old new hands.0
+all_more old before (given ∷ rest) new after hands =
+    more_both old hands.0 new (one_more old given hands.0 before hands.1 hands.2 hands.3) (all_more hands.0 hands.1 rest new after hands.4)
 
 -- ---- one after the other
 

@@ -1,6 +1,6 @@
 -- How the ids that a client ever started are kept in a journal: all of them first, and then those
 -- that it started since.
-use Rattle.std.specs.Prelude.{◌≡◌, ◌≤◌, ◌-◌, ◌^◌, ⊤, ℕ, Option, Some, None, Result, Ok, Err, List, ◌++◌, length, take, option_map}
+use Rattle.std.specs.Prelude.{◌≡◌, ◌≤◌, ◌-◌, ◌^◌, ℕ, Option, Some, None, Result, Ok, Err, List, ◌++◌, length, take, option_map}
 use Rattle.fields_model.specs.Format.{list, whole}
 use Rattle.fields_model.specs.Ids.{allocation_id}
 use Rattle.rows.specs.declared.allocation.AllocId.{AllocId}
@@ -26,4 +26,3 @@ started_replay = record {
 abbrev pub LeadsIds : IdsChange → List AllocId → List AllocId → Type 0
 LeadsIds changes.Nothing first now = first ≡ now
 LeadsIds (changes.Behind count) first now = (count ≤ length now) × (first ≡ take count now)
-LeadsIds changes.Whole first now = ⊤

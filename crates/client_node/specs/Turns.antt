@@ -11,7 +11,7 @@ use Rattle.rows.specs.declared.allocation.AllocId.{AllocId}
 use Rattle.group_inputs.specs.declared.client_input.ClientInput.{ClientInput}
 use Rattle.group_inputs.specs.declared.client_input.ClientInput.TheVariants as inputs
 use Rattle.group_model.specs.Agents.{Life, Running}
-use Rattle.client_agent.specs.AgentView.{AgentView}
+use Rattle.client_agent.specs.AgentView.{AgentView, StartsMore}
 use Rattle.actor.specs.Answers.{ClientSteps}
 use Rattle.actor.specs.Refusals.{ClientRefuses}
 use Rattle.journal.specs.Events.{IoEvent, BytesSent, LineReported}
@@ -27,10 +27,10 @@ pub record NodeView : Type 0 where
 
 -- ---- what is handed to the agent
 
--- It takes it; or it refuses it for this cause, and is as it was. Want of memory is neither: it ends
--- the process.
+-- It takes it, and forgets none of what it ever started; or it refuses it for this cause, and is as it
+-- was. Want of memory is neither: it ends the process.
 abbrev pub Hands : AgentView → ClientInput → AgentView → List Frame → List Frame → Option Refusal → Type 0
-Hands old given new before after None = ClientSteps old given new before after
+Hands old given new before after None = ClientSteps old given new before after × StartsMore old new
 Hands old given new before after (Some cause) = (new ≡ old) × ClientRefuses old given cause × (after ≡ before)
 
 -- these, one after the other, whichever of them it refuses

@@ -15,7 +15,7 @@ use crate::changes::{IdsChange, change_between, joined};
 use crate::fault::Fault;
 use crate::handing::{ask_each, bring, hand};
 use crate::items::{is_frame, read_end, read_time};
-use crate::telling::{put_turn, running_ids, started_ids};
+use crate::telling::{put_turn, running_ids};
 use client_agent::Agent;
 use fields::write_long_counted;
 use group_inputs::ClientInput;
@@ -189,11 +189,11 @@ impl Actor for ClientNode {
         change: &mut IdsChange,
         outs: &mut Vec<Out>,
     ) -> Result<(), NoMemory> {
-        let started = started_ids(alloc, &self.agent)?;
+        let before = self.agent.started().len();
         let ran = running_ids(alloc, &self.agent)?;
         let mut frames = Frames::new(alloc);
         let told = self.take_item(alloc, item, &mut frames)?;
-        let since = change_between(started.as_slice(), self.agent.started());
+        let since = change_between(before, self.agent.started().len());
         *change = joined(*change, since);
         put_turn(alloc, ran.as_slice(), &self.agent, &frames, told, outs)
     }
@@ -202,7 +202,6 @@ impl Actor for ClientNode {
         let started = self.agent.started();
         match change {
             IdsChange::Nothing => Ok(Saving::Nothing),
-            IdsChange::Whole => Ok(Saving::Whole),
             IdsChange::Behind(count) => {
                 let count = *count;
                 if count > started.len() {

@@ -47,15 +47,6 @@ pub fn running_ids(alloc: Global, agent: &Agent) -> Result<Vec<AllocId>, NoMemor
     }
 }
 
-/// The ids that were ever started, once more.
-pub fn started_ids(alloc: Global, agent: &Agent) -> Result<Vec<AllocId>, NoMemory>
-    ensures { IfOk result (λ ids. ids.items ≡ agent.now.client.started) }
-{
-    let mut ids = Vec::new(alloc);
-    ids.extend_from_slice(agent.started())?;
-    Ok(ids)
-}
-
 /// Puts these bytes, as an item, behind what is sent and reported.
 fn put_item(alloc: Global, bytes: &[u8], outs: &mut Vec<Out>) -> Result<(), NoMemory>
     ensures { OnOk result (map output_event outs.new.items

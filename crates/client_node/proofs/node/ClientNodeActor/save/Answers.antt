@@ -8,9 +8,6 @@ pub returns-in-Nothing : goal.returns-in-Nothing
 returns-in-Nothing c =
     ([], sym (append-nil c.args.out.now.items), λ first led. subst (λ d. LeadsIds d first (started_by c.args.self.now)) c.in-Nothing.is led)
 
-pub returns-in-Whole : goal.returns-in-Whole
-returns-in-Whole c = ([], sym (append-nil c.args.out.now.items), λ first led. tt)
-
 pub returns-then-count-started : goal.returns-then-count-started
 returns-then-count-started c = ([], sym (append-nil c.args.out.now.items), λ first led. tt)
 
