@@ -134,18 +134,18 @@ class Trouble:
                 break
         else:
             group.book.wrong(f"nothing is committed in {self.options.quiet} s of calm: {last}")
-        stand = None
+        stand, waits = None, None
         while time.monotonic() < until:
             await asyncio.gather(*(it.stands() for it in group.servers.values()))
             stand = {(it.term, it.last, it.applied) for it in group.servers.values()}
-            open_evals = [it for it in group.book.cluster.evals.rows.values()
-                          if it.status == "pending"]
-            if len(stand) == 1 and not open_evals and len(set(next(iter(stand))[1:])) == 1:
+            waits = [named(it.id) for it in group.book.cluster.evals.rows.values()
+                     if it.status == "pending"]
+            if len(stand) == 1 and not waits and len(set(next(iter(stand))[1:])) == 1:
                 break
             await asyncio.sleep(0.2)
         else:
-            group.book.wrong(f"after {self.options.quiet} s of calm the servers differ, or have not"
-                             f" settled: {stand}")
+            group.book.wrong(f"after {self.options.quiet} s of calm the servers have not settled:"
+                             f" {stand}, and these evaluations are pending: {waits}")
         for server in group.servers.values():
             await has_state(group, server)
         await self.runs_settle(until)
