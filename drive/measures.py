@@ -14,15 +14,29 @@ class Measures:
 
     def __init__(self, group, options):
         self.group, self.options, self.closing = group, options, False
+        self.waiting = []  # what is waited for, with who is to be told
+        group.book.watchers.append(self.look)
+
+    def look(self, index, command):
+        """A command was applied: what is waited for may hold."""
+        left = []
+        for holds, told in self.waiting:
+            if told.done() or holds():
+                told.done() or told.set_result(True)
+            else:
+                left.append((holds, told))
+        self.waiting = left
 
     async def until(self, holds, seconds=30):
-        """Waits till it holds. Whether it came to."""
-        until = time.monotonic() + seconds
-        while not holds():
-            if time.monotonic() > until:
-                return False
-            await asyncio.sleep(0.01)
-        return True
+        """Waits till it holds, as commands are applied. Whether it came to."""
+        if holds():
+            return True
+        told = asyncio.get_running_loop().create_future()
+        self.waiting.append((holds, told))
+        try:
+            return await asyncio.wait_for(told, seconds)
+        except asyncio.TimeoutError:
+            return False
 
     async def is_ready(self):
         """There is a leader, and each node is registered."""
@@ -47,15 +61,15 @@ class Measures:
 
     async def put_and_stop(self, place, times):
         """One who puts a job of one allocation, waits till it is placed, and stops it."""
-        name, book = f"m-{place}", self.group.book
-        live = book.cluster.live[name, "main", 0]
+        name = f"m-{place}"
+        live = self.group.book.cluster.live[name, "main", 0]
         while not self.closing:
             began = time.perf_counter()
             await self.group.request(["put", name, "50", "main:1:linux:1:1:0"])
-            if await self.until(lambda: self.group.book.cluster.live[name, "main", 0] or self.closing):
+            if await self.until(lambda: live):
                 times.append(time.perf_counter() - began)
             await self.group.request(["stop", name])
-            await self.until(lambda: not live or self.closing)
+            await self.until(lambda: not live)
 
     async def rate(self, what, askers, seconds):
         """How many a second, with what time in the middle, and how much of a processor this takes."""
@@ -74,11 +88,10 @@ class Measures:
         return len(done) / took, 1000 * middle(done), used / took
 
     async def rates(self):
-        print("who ask    proposals/s   median ms   placed/s   median ms   driver's cpu", flush=True)
+        print("who ask    proposals/s   median ms   placed/s   median ms   driver's cpu",
+              flush=True)
         for askers in (1, 10, 100):
             placed = await self.rate(self.put_and_stop, askers, self.options.measure)
-            for client in self.group.clients.values():
-                client.index = 0
             proposed = await self.rate(self.propose, askers, self.options.measure)
             print(f"{askers:7} {proposed[0]:14.0f} {proposed[1]:11.2f} {placed[0]:10.1f}"
                   f" {placed[1]:11.1f} {proposed[2]:8.2f} {placed[2]:.2f}", flush=True)
@@ -88,8 +101,8 @@ class Measures:
     async def failover(self, serial):
         """Milliseconds from a SIGKILL of the leader to the next allocation that is placed."""
         group = self.group
-        if not await self.until(lambda: group.leader() is not None):
-            return None
+        while not group.leader():
+            await asyncio.sleep(0.05)
         leader, placed = group.leader(), group.book.placed
         name = f"f-{serial % 100}"
         began = time.monotonic()
@@ -117,7 +130,8 @@ class Measures:
         if not times:
             print("failover: nothing was placed", flush=True)
             return
-        parts = [times[min(len(times) - 1, len(times) * part // 100)] for part in (0, 10, 50, 90, 99)]
+        parts = [times[min(len(times) - 1, len(times) * part // 100)]
+                 for part in (0, 10, 50, 90, 99)]
         print(f"failover, {len(times)} of {len(found)}, ms from SIGKILL to what is placed next:"
               f" least {parts[0]:.0f}, of ten {parts[1]:.0f}, middle {parts[2]:.0f}, of ninety"
               f" {parts[3]:.0f}, of 99 {parts[4]:.0f}, most {times[-1]:.0f}", flush=True)
