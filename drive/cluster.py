@@ -1,8 +1,8 @@
 """The replicated state of a group as its texts say it, and what commands do to it.
 
 It follows the definitions of `fields_model` and `fsm_model` a second time, in another language, so
-that a driver can say what servers should have. Rows are tuples, in the order of their texts. What is
-not read by eye is not tested here: ranges are the servers' business.
+that a driver can say what servers should have. Rows are tuples, in the order of their texts. Ranges
+are not tested here: they are the servers' business.
 """
 import collections
 import struct

@@ -87,8 +87,8 @@ class GroupBook(LogBook):
             self.follow(commit, at, term)
 
     def follow(self, commit, at, term):
-        """What stands at this index in the log that has an entry of this term there, is committed up
-        to that one; as far as frames carried it yet."""
+        """The log that has an entry of this term at an index is committed up to another one: what
+        stands there is followed, as far as frames carried it yet."""
         while at > commit:
             entry = self.entries.get(at, {}).get(term)
             if entry is None:

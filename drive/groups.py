@@ -216,8 +216,8 @@ class Group:
             return await self.set_member(kind, words[1], int(words[2]))
         if kind in ("cut", "heal"):
             return self.cut_or_heal(kind, words[1:])
-        raise ValueError("put, stop, eval, drain, status, kill, start, cut, heal or quit: drive/group"
-                         " --help says more")
+        raise ValueError("put, stop, eval, drain, status, kill, start, cut, heal or quit:"
+                         " drive/group --help says more")
 
     async def set_member(self, kind, sort, number):
         member = {"server": self.servers, "client": self.clients}[sort][number]
@@ -258,7 +258,7 @@ class Group:
 
 
 def spec_of(text, number):
-    """Class, processor time, memory and disk of a node. Of several, parted by `/`, they take turns."""
+    """Class, processor time, memory and disk of a node. Several, parted by `/`, take turns."""
     parts = text.split("/")
     klass, *size = parts[(number - 1) % len(parts)].split(":")
     if len(size) != 3:
@@ -267,7 +267,7 @@ def spec_of(text, number):
 
 
 def rows_of(state):
-    """The tables of a state, as JSON has them: of allocations and evaluations those that are open."""
+    """The tables of a state, as JSON has them: of evaluations and allocations the open ones."""
     if state is None:
         return {"applied": 0, "jobs": [], "nodes": [], "evals": [], "allocs": []}
     return {

@@ -236,8 +236,8 @@ class Way:
 
 
 class Link(Way):
-    """A way from one to another, which calls again whenever the connection is lost. What comes back,
-    if anything may, is taken by `take`."""
+    """A way from one to another, which calls again whenever the connection is lost. What comes
+    back, if anything may, is taken by `take`."""
 
     def __init__(self, key, me, to, address, take=lambda *_: None):
         super().__init__()

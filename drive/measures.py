@@ -72,7 +72,7 @@ class Measures:
             await self.until(lambda: not live)
 
     async def rate(self, what, askers, seconds):
-        """How many a second, with what time in the middle, and how much of a processor this takes."""
+        """How many a second, the time in the middle, and how much of a processor this takes."""
         times, self.closing = [], False
         tasks = [asyncio.get_running_loop().create_task(what(place, times))
                  for place in range(askers)]

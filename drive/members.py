@@ -1,5 +1,5 @@
-"""A server and a client of a group as a driver sees them: a process that is started again and again,
-its clock, and its connections."""
+"""A server and a client of a group as a driver sees them: a process that is started again and
+again, its clock, and its connections."""
 import asyncio
 import os
 import re
@@ -19,8 +19,8 @@ def name_of(actor):
 
 
 class Member:
-    """A process of a group. What goes in is handed over with the time that passed behind it, all of a
-    moment at once: so the process may take it as one batch."""
+    """A process of a group. What goes in is handed over with the time that passed behind it, all of
+    a moment at once: so the process may take it as one batch."""
 
     def __init__(self, me, key, tick, watch=None, fate=None):
         self.me, self.key, self.tick, self.watch, self.fate = me, key, tick, watch, fate
@@ -310,11 +310,11 @@ class Client(Member):
 # ---- what runs
 
 class Runner:
-    """Runs the commands of allocations on one node: each in a session and a folder of its own. Where
-    the file of commands has none for a group, nothing runs, and nothing ends by itself.
+    """Runs the commands of allocations on one node: each in a session and a folder of its own.
+    Where there is none for a group nothing runs, and nothing ends by itself.
 
-    `commands` has for JOB.GROUP, JOB or `*` a line for the shell. `named` finds the job, the group and
-    the index of an allocation's id, once it is known."""
+    `commands` has for JOB.GROUP, JOB or `*` a line for the shell. `named` finds the job, the group
+    and the index of an allocation's id, once it is known."""
 
     def __init__(self, number, folder, commands, named):
         self.number, self.folder, self.commands, self.named = number, folder, commands, named

@@ -11,8 +11,9 @@ CLOCKS = ("seconds", "count")
 class Page:
     """Answers a browser. It looks only, unless it may control.
 
-    A request must name this very place as its host, so that no page of another place reaches it by a
-    name of its own. What controls must come with a head that no page of another place can send."""
+    A request must name this very place as its host, so that no page of another place reaches it by
+    a name of its own. What controls must come with a head that no page of another place can
+    send."""
 
     def __init__(self, group, may_control):
         self.group, self.may_control, self.hosts, self.listener = group, may_control, (), None

@@ -114,7 +114,7 @@ class Asker:
         return row and (row.job, row.group, row.index)
 
     async def request(self, words):
-        """Asks servers, one after the other, till a log takes it, and waits for what becomes of it."""
+        """Asks servers in turn till a log takes it, and waits for what becomes of it."""
         asked_text(words)
         order = sorted(self.addresses)
         for _ in range(20):

@@ -98,7 +98,8 @@ class Trouble:
         """All of it, for so many seconds, and then calm."""
         group, options = self.group, self.options
         some = max(1, (options.servers - 1) // 2)
-        tasks = [self.kills(group.servers, "servers", some), self.cuts(), self.drains(), self.ends()]
+        tasks = [self.kills(group.servers, "servers", some), self.cuts(), self.drains(),
+                 self.ends()]
         if group.clients:
             tasks.append(self.kills(group.clients, "clients", 1))
         tasks += [self.asks(place) for place in range(options.askers)]
@@ -110,7 +111,8 @@ class Trouble:
         for task in left:
             task.cancel()
         if left:
-            group.book.wrong(f"{len(left)} tasks wait for an answer after {options.quiet} s of calm")
+            group.book.wrong(f"{len(left)} tasks wait for an answer after {options.quiet} s of"
+                             " calm")
         for task in set(running) - left:
             task.result()
         group.net.is_calm, group.net.cut = True, set()
@@ -166,8 +168,8 @@ class Trouble:
             live = {row[0] for row in cluster.list_of(number)}
             runs = set(client.runner.running)
             if live != runs and cluster.nodes.rows.get(number):
-                found.append(f"client {number} runs {sorted(map(named, runs))}, and of node {number}"
-                             f" {sorted(map(named, live))} are live")
+                found.append(f"client {number} runs {sorted(map(named, runs))}, and of node"
+                             f" {number} {sorted(map(named, live))} are live")
         return found
 
 
