@@ -14,6 +14,7 @@ from links import Net, spelled
 from members import FIRST_CLIENT, Client, Runner, Server, name_of
 
 NAMED_LEADER = re.compile(rb"server (\d) leads")
+NOT_HERE = (b"refused 2:", b"refused 3:")  # it does not lead, or does not serve yet
 
 
 def actor_of(word):
@@ -143,11 +144,11 @@ class Group:
             self.book.proposes(text)
         guess = self.leader()
         while True:
-            server = guess or self.leader() or self.any_up()
+            server = guess if guess and guess.is_up() else self.leader() or self.any_up()
             answer = await self.propose(server, words, text) if server else b"refused 2: none is up"
             if answer is None:
                 return "unknown: the server ended before it said whether it takes it"
-            if not answer.startswith((b"refused 2:", b"refused 3:")):
+            if not answer.startswith(NOT_HERE):
                 return answer.decode()
             if time.monotonic() > until or self.closing:
                 if self.book:
@@ -175,7 +176,7 @@ class Group:
             self.count["untold"] += 1
             return None
         if not answer.startswith(b"ticket"):
-            if not answer.startswith((b"refused 2:", b"refused 3:")) and self.book:
+            if not answer.startswith(NOT_HERE) and self.book:
                 self.book.declined(text)
             return answer
         index, term = map(int, answer.split()[1:3])

@@ -247,17 +247,21 @@ class Server(Member):
         self.take_message(keyed, body)
 
     def take_question(self, keyed, body):
-        """An item of L, Q, S or V with the asker's own id: so are its answers."""
+        """An item of L, Q, S or V with the asker's own id: so are its answers. `down` says that the
+        process is not there, `ended` that it ended before it answered."""
         letter, asker, rest = body[:1], body[1:9], body[9:]
         if letter not in (b"L", b"Q", b"S", b"V") or len(asker) != 8:
             raise ValueError("no question")
         way = Way(keyed)
 
         def take(text):
-            way.put(asker + (b"down" if text is None else text))
+            way.put(asker + (b"ended" if text is None else text))
             return letter == b"L" and text is not None and text.startswith(b"ticket")
 
-        self.ask(letter, rest, take)
+        if self.is_up():
+            self.ask(letter, rest, take)
+        else:
+            way.put(asker + b"down")
 
 
 class Client(Member):

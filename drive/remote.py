@@ -5,7 +5,7 @@ import os
 import signal
 
 from cluster import Cluster, asked_text
-from groups import NAMED_LEADER, commands_of, rows_of, spec_of, table
+from groups import NAMED_LEADER, NOT_HERE, commands_of, rows_of, spec_of, table
 from links import CLIENT, Keyed, addresses_of, key_of, spelled
 from members import STATUS, Client, Runner, Server, name_of
 
@@ -65,42 +65,48 @@ class Asker:
         self.addresses, self.key, self.rows = addresses, key, {}
 
     async def question(self, me, body, is_last=lambda text: True):
-        """What server `me` answers, the last of it; None where it does not."""
-        loop, answer = asyncio.get_running_loop(), asyncio.get_running_loop().create_future()
+        """What server `me` answers, up to the last of it; None where it cannot be asked."""
+        loop, said, done = asyncio.get_running_loop(), [], asyncio.Event()
 
         def take(_, text):
-            if is_last(text[8:]) and not answer.done():
-                answer.set_result(bytes(text[8:]))
+            said.append(bytes(text[8:]))
+            if is_last(said[-1]):
+                done.set()
 
         transport = None
         try:
             transport, keyed = await asyncio.wait_for(loop.create_connection(
                 lambda: Keyed(self.key, CLIENT, me, take, True), *self.addresses[me]), 5)
-            if not await asyncio.wait_for(keyed.ready, 5):
+            if not await asyncio.wait_for(asyncio.shield(keyed.ready), 5):
                 return None
-            keyed.put([body[:1] + spelled(1) + body[1:]])
-            await asyncio.wait({answer, keyed.lost}, timeout=20,
-                               return_when=asyncio.FIRST_COMPLETED)
-            return answer.result() if answer.done() else None
         except (OSError, asyncio.TimeoutError):
-            return None
-        finally:
             if transport:
                 transport.abort()
+            return None
+        keyed.put([body[:1] + spelled(1) + body[1:]])
+        over = loop.create_task(done.wait())
+        await asyncio.wait({over, keyed.lost}, timeout=20, return_when=asyncio.FIRST_COMPLETED)
+        over.cancel()
+        transport.abort()
+        return said
+
+    async def answer(self, me, body):
+        """The one answer, empty where there is none."""
+        return b"".join(await self.question(me, body) or [])
 
     async def stands(self):
         """How each server stands, as the columns of a table have it."""
         found = []
         for me in sorted(self.addresses):
-            status = STATUS.match(await self.question(me, b"S") or b"")
+            status = STATUS.match(await self.answer(me, b"S"))
             role, *numbers = status.groups() if status else (b"no answer", 0, 0, 0)
             found.append({"number": me, "role": role.decode(), "life": 0,
                           **dict(zip(("term", "last", "applied"), map(int, numbers)))})
         return found
 
     async def state(self, me):
-        text = await self.question(me, b"V")
-        return Cluster.read(text) if text and text != b"down" else None
+        text = await self.answer(me, b"V")
+        return Cluster.read(text) if len(text) > len(b"ended") else None
 
     async def named(self, allocation):
         """Job, group and index of an allocation, if a server knows it."""
@@ -114,22 +120,41 @@ class Asker:
         return row and (row.job, row.group, row.index)
 
     async def request(self, words):
-        """Asks servers in turn till a log takes it, and waits for what becomes of it."""
+        """Asks servers in turn till a log takes it, and says what becomes of it. It is asked again
+        only where it was not taken."""
         asked_text(words)
         order = sorted(self.addresses)
-        for _ in range(20):
+        for _ in range(40):
             me = order.pop(0)
             order.append(me)
             line = f"Lrequest {me} {' '.join(words)}"
-            answer = await self.question(me, line.encode(), lambda it: not it.startswith(b"ticket"))
-            if answer and not answer.startswith((b"refused 2:", b"refused 3:", b"down")):
-                return answer.decode()
-            leads = NAMED_LEADER.search(answer or b"")
+            said = await self.question(me, line.encode(), lambda it: not it.startswith(b"ticket"))
+            word = said[0] if said else b""
+            if word.startswith(b"ticket"):
+                return await self.became(said)
+            if said is not None and word != b"down" and not word.startswith(NOT_HERE):
+                return word.decode() if word not in (b"", b"ended") else \
+                    f"unknown: server {me} ended before it said whether it takes it"
+            leads = NAMED_LEADER.search(word)
             if leads:
                 order.remove(int(leads[1]))
                 order.insert(0, int(leads[1]))
             await asyncio.sleep(0.2)
-        return "unknown: no server said that it took it, or what became of it"
+        return "refused: no server leads"
+
+    async def became(self, said):
+        """What became of what was taken: the server's own word, or that of another one."""
+        place = said[0].split(b" ", 1)[1]
+        if len(said) > 1 and said[1] != b"ended":
+            return said[1].decode()
+        index, term = map(int, place.split())
+        for _ in range(100):
+            for me in sorted(self.addresses):
+                word = (await self.answer(me, b"Q" + spelled(index) + spelled(term))).split(b" ")[0]
+                if word in (b"committed", b"lost", b"covered"):
+                    return f"{word.decode()} {index} {term}"
+            await asyncio.sleep(0.2)
+        return f"open {index} {term}"
 
 
 async def put_question(options):
