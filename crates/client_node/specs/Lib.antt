@@ -2,7 +2,6 @@ pub mod Items
 pub mod Records
 pub mod Turns
 pub mod Statuses
-pub mod Reading
 pub mod Starts
 pub mod Inner
 pub mod Laws

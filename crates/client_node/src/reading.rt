@@ -2,8 +2,9 @@
 ghost use Rattle.std.specs.Prelude.{◌≡◌, ◌≤◌, ◌-◌, ◌^◌, ℕ, None, Some, IfErr, IfOk, OnOk, option_map, drop, length};
 ghost use Rattle.fields_model.specs.Format.{Gives, list, whole};
 ghost use Rattle.fields_model.specs.Ids.{allocation_id};
+ghost use Rattle.journal.specs.Starts.{FaultAt, ReplaysTo};
 ghost use Rattle.client_node.specs.Records.{ids_in, started_replay};
-ghost use Rattle.client_node.specs.Starts.{FaultAt, IsAnothers, IsBadStore, IsStored, ReplaysTo};
+ghost use Rattle.client_node.specs.Starts.{IsAnothers, IsBadStore, IsStored};
 ghost use Rattle.client_node.specs.declared.fault.Fault.TheVariants as faults;
 
 use crate::fault::Fault;
@@ -57,9 +58,9 @@ fn follow(alloc: Global, ids: &mut Vec<AllocId>, payload: &[u8], at: usize) -> R
 /// being written may be torn, and is left out; any other fault is at the offset of its record.
 fn from_journal(alloc: Global, bytes: &[u8], start: usize) -> Result<Vec<AllocId>, Fault>
     requires { start ≤ length bytes.now }
-    ensures kept { IfOk result (λ ids. ReplaysTo (drop start bytes.now) ids.items) }
+    ensures kept { IfOk result (λ ids. ReplaysTo started_replay (drop start bytes.now) ids.items) }
     ensures fault { IfErr result (λ fault. (place : ℕ) → fault ≡ faults.BadStore place →
-        FaultAt bytes.now start place) }
+        FaultAt started_replay bytes.now start place) }
     ensures own { IfErr result (λ fault. fault ≡ faults.Another → ⊥) }
 {
     let Some((payload, next)) = next_record(bytes, start) else {

@@ -3,8 +3,9 @@ ghost use Rattle.std.specs.Prelude.{◌≡◌, ◌≤◌, ℕ, None, Some, IfErr
 ghost use Rattle.rows.specs.Versions.{newest};
 ghost use Rattle.fields_model.specs.Format.{Gives, whole};
 ghost use Rattle.raft_snapshot.specs.Texts.{front};
+ghost use Rattle.journal.specs.Starts.{FaultAt, ReplaysTo};
 ghost use Rattle.raft_records.specs.Records.{raft_replay};
-ghost use Rattle.raft_records.specs.Starts.{FaultAt, IsAnothers, IsBadStore, IsStored, ReplaysTo};
+ghost use Rattle.raft_records.specs.Starts.{IsAnothers, IsBadStore, IsStored};
 ghost use Rattle.raft_records.specs.declared.reading.Unread.TheVariants as unread;
 
 use journal::{MAGIC, may_be_torn, next_record};
@@ -110,9 +111,9 @@ fn follow<M: Machine>(
 /// written may be torn, and is left out; any other fault is at the offset of its record.
 fn from_journal<M: Machine>(alloc: Global, bytes: &[u8], start: usize) -> Result<Stable<M>, Unread>
     requires { start ≤ length bytes.now }
-    ensures kept { IfOk result (λ s. ReplaysTo M.spec (drop start bytes.now) s) }
+    ensures kept { IfOk result (λ s. ReplaysTo (raft_replay M.spec) (drop start bytes.now) s) }
     ensures fault { IfErr result (λ error. (place : ℕ) → error ≡ unread.At place →
-        FaultAt M.spec bytes.now start place) }
+        FaultAt (raft_replay M.spec) bytes.now start place) }
     ensures own { IfErr result (λ error. error ≡ unread.Another → ⊥) }
 {
     let Some((payload, next)) = next_record(bytes, start) else {

@@ -1,7 +1,8 @@
 use Rattle.std.proofs.Common.{◌≡◌, Err, arith, rules}
 use Rattle.journal.proofs.Scanning.{one_further}
-use Rattle.client_node.specs.Starts.{no_record, no_whole}
-use Rattle.client_node.proofs.Starting.{read_first, read_more, read_all, fault_there, tail_there}
+use Rattle.journal.specs.Starts.{no_record, no_whole}
+use Rattle.journal.proofs.Starting.{read_first, read_more, read_all, fault_there, tail_there}
+use Rattle.client_node.specs.Records.{started_replay}
 use Rattle.client_node.proofs.reading.from_journal.Goals as goal
 
 pub records-init : goal.records-init
@@ -11,7 +12,7 @@ records-init c =
     record {
       within = (one_further bytes (λ i. omega (arith, c.type_inv.bytes i)) c.args.start payload c.in-Some.next c.in-Some.ensures c.requires).1;
       so =
-          read_first bytes (λ i. omega (arith, c.type_inv.bytes i)) c.args.start payload c.in-Some.next c.in_ok-all.all.items
+          read_first started_replay bytes (λ i. omega (arith, c.type_inv.bytes i)) c.args.start payload c.in-Some.next c.in_ok-all.all.items
           c.in-Some.ensures c.in_ok-all.ensures.whole;
     }
 
@@ -22,14 +23,14 @@ records-preserved c =
     record {
       within = (one_further bytes (λ i. omega (arith, c.type_inv.bytes i)) c.records.at read.payload.now read.next read.ensures c.records.invariant.within).1;
       so =
-          read_more bytes (λ i. omega (arith, c.type_inv.bytes i)) c.args.start c.records.at read.payload.now read.next read.ensures
+          read_more started_replay bytes (λ i. omega (arith, c.type_inv.bytes i)) c.args.start c.records.at read.payload.now read.next read.ensures
           c.records.all.items c.follow.new.ids.items c.in_ok-follow.ensures.after c.records.invariant.so;
     }
 
 pub returns-then-may_be_torn-clause-kept : goal.returns-then-may_be_torn-clause-kept
 returns-then-may_be_torn-clause-kept c =
     let none = c.in_default-next_record.ensures in
-    read_all c.args.bytes.now (λ i. omega (arith, c.type_inv.bytes i)) c.args.start c.records.at none.0 c.records.all.items none.1
+    read_all started_replay c.args.bytes.now (λ i. omega (arith, c.type_inv.bytes i)) c.args.start c.records.at none.0 c.records.all.items none.1
     c.if-may_be_torn.ensures c.records.invariant.so
 
 pub returns-in_default-clause-fault : goal.returns-in_default-clause-fault
@@ -52,10 +53,10 @@ returns-in_err-follow-clause-fault c =
     let read = c.in-Some-next_record in
     rw is (λ place e.
     let why = c.in_err-follow.ensures.fault place e in
-    fault_there c.args.bytes.now c.args.start c.records.at place c.records.all.items read.payload.now read.next why.0 c.records.invariant.so read.ensures why.1)
+    fault_there started_replay c.args.bytes.now c.args.start c.records.at place c.records.all.items read.payload.now read.next why.0 c.records.invariant.so read.ensures why.1)
 
 pub returns-else-may_be_torn-clause-fault : goal.returns-else-may_be_torn-clause-fault
 returns-else-may_be_torn-clause-fault c = λ place is.
     let none = c.in_default-next_record.ensures in
     let here : c.records.at ≡ place = cc is in
-    tail_there c.args.bytes.now c.args.start c.records.at place c.records.all.items none.0 here c.records.invariant.so none.1 c.if-may_be_torn.ensures
+    tail_there started_replay c.args.bytes.now c.args.start c.records.at place c.records.all.items none.0 here c.records.invariant.so none.1 c.if-may_be_torn.ensures
