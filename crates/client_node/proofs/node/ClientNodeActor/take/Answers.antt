@@ -31,10 +31,10 @@ returns-clause-change c =
     let ran = c.as_slice.ensures.value ∙ c.in_ok-ran.ensures ∙ ap (λ v. runs_in v.agent) c.self.view_is in
     let went = subst (λ f. WentBy c.args.item.now c.args.self.now c.take_item.new.self f c.take_item.new.frames c.in_ok-told.told) c.new-frames.ensures c.in_ok-told.ensures in
     let more = went_more c.args.item.now c.args.self.now c.take_item.new.self [] c.take_item.new.frames c.in_ok-told.told went in
-    let from : c.len-before.result ≡ length old = c.len-before.ensures.value ∙ ap length (c.started.ensures.started ∙ ap started_by c.self.view_is) in
-    let to : c.len.result ≡ length new = c.len.ensures.value ∙ ap length (c.started-2.ensures.started ∙ ap started_by c.self-2.view_is) in
+    let from : length c.started-before.result.now ≡ length old = ap length (c.started-before.ensures.started ∙ ap started_by c.self.view_is) in
+    let to : length c.started.result.now ≡ length new = ap length (c.started.ensures.started ∙ ap started_by c.self-2.view_is) in
     let since : c.change_between-since.result ≡ change_between (length old) (length new) =
-    c.change_between-since.ensures ∙ ap (λ n. change_between n c.len.result) from ∙ ap (change_between (length old)) to in
+    c.change_between-since.ensures ∙ ap (λ n. change_between n (length c.started.result.now)) from ∙ ap (change_between (length old)) to in
     let leads = subst (λ d. LeadsIds d old new) (sym since) (more_leads old more.0 new more.1) in
     on_ok_weaker c.put_turn.result
     (λ put first led. subst (λ d. LeadsIds d first new) (sym c.joined.ensures) (joined_leads c.args.change.now c.change_between-since.result first old new led leads))
