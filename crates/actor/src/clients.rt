@@ -28,8 +28,8 @@ pub fn is_client_restart(input: &ClientInput) -> bool
 /// A client takes an input, and what it sends is put behind these frames.
 ///
 /// It is refused as `Agent::step` refuses it, but that want of memory is the client's crash, and so
-/// never with `NoMemory`. A refusal changes nothing, and a crash leaves the frames as they were. None
-/// of what it ever started is forgotten.
+/// never with `NoMemory`. A refusal changes nothing, and a crash leaves the frames as they were.
+/// None of what it ever started is forgotten.
 pub fn hand_client(
     client: &mut Agent,
     input: ClientInput,
