@@ -1,9 +1,9 @@
 //! The words of a line: names, numbers, and where a line is cut.
-ghost use Rattle.std.specs.Prelude.{◌≡◌, ◌<◌, ◌+◌, ◌^◌, ◌++◌, ◌∷◌, [], ℕ, List, Some, IfSome, IsSomeAnd, OnOk, decimal};
+ghost use Rattle.std.specs.Prelude.{◌≡◌, ◌<◌, ◌+◌, ◌^◌, ◌++◌, ◌∷◌, [], ℕ, List, Some, IfSome, IsSomeAnd, MatchBool, OnOk, decimal};
 ghost use Rattle.std.specs.List.{join_with_byte};
 ghost use Rattle.rows.specs.Fits.{FromOneFits, GroupCountFits, IndexFits, NodeIdFits, OrdinalFits, PriorityFits, QuantityFits, SizeFits, SpaceFits};
 ghost use Rattle.rows.specs.Names.{NameFits};
-ghost use Rattle.event_texts.specs.Inner.Plain.{IsWithout};
+ghost use Rattle.event_texts.specs.Inner.Plain.{IsPadded, IsWithout};
 
 use itoa::Buffer;
 use rows::{
@@ -37,11 +37,20 @@ pub fn read_number(text: &str) -> Option<u64>
     ensures read { (number : ℕ) → number < 2 ^ 64 → text.now ≡ decimal number
         → result ≡ Some number }
 {
-    let number: u64 = text.parse().ok()?;
-    if Buffer::new().format(number) == text {
-        Some(number)
-    } else {
-        None
+    if is_padded(text.as_bytes()) {
+        return None;
+    }
+    text.parse().ok()
+}
+
+/// Whether a sign stands in front, or a zero that is not all.
+fn is_padded(text: &[u8]) -> bool
+    ensures value { MatchBool result (IsPadded text.now) (IsPadded text.now → ⊥) }
+{
+    match text.first() {
+        Some(b'+') => true,
+        Some(b'0') => text.len() > 1,
+        _ => false,
     }
 }
 

@@ -1,5 +1,5 @@
 -- Texts of one word, and of requests.
-use Rattle.std.specs.Prelude.{◌≡◌, ◌≢◌, ℕ, List, [], ◌∷◌, codes, map}
+use Rattle.std.specs.Prelude.{◌≡◌, ◌≢◌, ◌≤◌, ◌⊎◌, ℕ, List, [], ◌∷◌, codes, get_or, length, map}
 use Rattle.std.specs.List.{All, join_with_byte}
 use Rattle.rows.specs.declared.allocation.AllocId.{AllocId}
 use Rattle.rows.specs.declared.plan.Place.{Place}
@@ -10,6 +10,10 @@ use Rattle.event_texts.specs.WorkerLines.{alloc_text, comma_list, place_text}
 -- no byte of the text is the separator
 abbrev pub IsWithout : ℕ → List ℕ → Type 0
 IsWithout separator text = All (λ b. b ≢ separator) text
+
+-- a plus sign stands in front, or a zero that is not all
+abbrev pub IsPadded : List ℕ → Type 0
+IsPadded text = (get_or text 0 0 ≡ 43) ⊎ ((get_or text 0 0 ≡ 48) × (2 ≤ length text))
 
 -- without a space and without a comma
 abbrev pub IsPlainWord : List ℕ → Type 0
