@@ -1,4 +1,4 @@
-use Rattle.std.proofs.Common.{◌≡◌, Ok, decimal, rules}
+use Rattle.std.proofs.Common.{◌≡◌, Ok, rules}
 use Rattle.std.proofs.lemmas.Fmt.{parse-decimal}
 use Rattle.event_texts.specs.Inner.Plain.{IsPadded}
 use Rattle.event_texts.proofs.Digits.{decimal_plain, plain_read}
