@@ -4,6 +4,7 @@ ghost use Rattle.std.specs.Prelude.{◌≡◌, true, IfErr, IfOk, Ok};
 ghost use Rattle.rows.specs.declared.actor.Actor.TheVariants as actors;
 ghost use Rattle.rows.specs.declared.refusal.Refusal.TheVariants as refusals;
 ghost use Rattle.fields_model.specs.Format.{Answers, Gives};
+ghost use Rattle.wire.specs.declared.kind.Kind.TheVariants as kinds;
 ghost use Rattle.wire.specs.Messages.{Message as MessageOf, is_another_server, is_of_log, is_server, kind_of, log_body, may_go, takes_memory};
 ghost use Rattle.wire.specs.Frames.{IsFrame, MessageFits, frame_takes_memory, is_log_frame, message_at, message_text};
 ghost use Rattle.wire.specs.Grammar.{body};
@@ -95,6 +96,21 @@ pub fn is_log_frame(bytes: &[u8]) -> bool
     }
 }
 
+// The body of an `Install`, and the place after it. Its state is large where the machine is, and room
+// for it is cleared: so this stands apart from what all other messages go through.
+#[inline(never)]
+fn read_install_body<M: Machine>(
+    alloc: Global,
+    bytes: &[u8],
+    at: usize,
+) -> Result<(LogBody<M>, usize), Refusal>
+    ensures { AnswersBody M.spec (takes_memory kinds.Install ≡ true) (λ b. log_body b)
+        bytes.now at result ((body M.spec kinds.Install).read bytes.now at) }
+{
+    let (install, end) = read_install(alloc, bytes, at)?;
+    Ok((LogBody::Install(Box::new(alloc, install)?), end))
+}
+
 // The body of a message of this kind, and the place after it.
 #[inline(always)]
 fn read_log_body<M: Machine>(
@@ -125,10 +141,7 @@ fn read_log_body<M: Machine>(
             let (reply, end) = AppendReply::read_at(version, alloc, bytes, at)?;
             Ok((LogBody::AppendReply(reply), end))
         }
-        Kind::Install => {
-            let (install, end) = read_install(alloc, bytes, at)?;
-            Ok((LogBody::Install(Box::new(alloc, install)?), end))
-        }
+        Kind::Install => read_install_body(alloc, bytes, at),
         Kind::InstallReply => {
             let (reply, end) = InstallReply::read_at(version, alloc, bytes, at)?;
             Ok((LogBody::InstallReply(reply), end))
