@@ -1,0 +1,8 @@
+pub mod Items
+pub mod Records
+pub mod Turns
+pub mod Statuses
+pub mod Starts
+pub mod Lives
+pub mod Inner
+pub mod Laws
