@@ -12,7 +12,7 @@ use Rattle.sim_expand.specs.Shorts.{IsShortText}
 
 -- each of its steps took these lines in turn, and by them a new group of its own came to stand so
 pub record TakesLines (s : ShortScenario) (lines : List (List ℕ)) : Type 0 where
-  pub order : OfEachBehind (LinesOf s.settings s.nodes.items) [] (map short_step s.steps.items) lines
+  pub order : OfEachBehind (LinesOf s.settings s.nodes.items) [] [] (map short_step s.steps.items) lines
   pub play : Play
   pub taken : AreTaken s.settings s.nodes.items lines play
 

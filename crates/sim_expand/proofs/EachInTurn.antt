@@ -38,15 +38,18 @@ module _ {A B : Type 0} (One : A → List B → Type 0) where
         (rest.0, are.2 ∙ whole ∙ parts ∙ ap (λ s. (s ++ own) ++ rest.0) (sym first.2))
 
 -- one more, which rests on all that came before
-pub of_one_more_behind : {A B : Type 0} (One : List B → A → List B → Type 0) (before : List B) (xs : List A) (x : A) (all own : List B)
-    → OfEachBehind One before xs all → One (before ++ all) x own → OfEachBehind One before (xs ++ x ∷ []) (all ++ own)
-of_one_more_behind One before [] x all own none is =
-    (own, [], ap (λ s. s ++ own) none ∙ sym (append-nil own), subst (λ s. One s x own) (ap (λ s. before ++ s) none ∙ append-nil before) is, refl)
-of_one_more_behind One before (y ∷ xs) x all own are is =
-    let behind : before ++ all ≡ (before ++ are.0) ++ are.1 = ap (λ s. before ++ s) are.2 ∙ sym (append_assoc before are.0 are.1) in (
+pub of_one_more_behind : {A B : Type 0} (One : List A → List B → A → List B → Type 0) (passed : List A) (before : List B) (xs : List A) (x : A) (all own : List B)
+    → OfEachBehind One passed before xs all → One (passed ++ xs) (before ++ all) x own → OfEachBehind One passed before (xs ++ x ∷ []) (all ++ own)
+of_one_more_behind One passed before [] x all own none is =
+    let is = subst (λ s. One (passed ++ []) s x own) (ap (λ s. before ++ s) none ∙ append-nil before) is in
+    (own, [], ap (λ s. s ++ own) none ∙ sym (append-nil own), subst (λ s. One s before x own) (append-nil passed) is, refl)
+of_one_more_behind One passed before (y ∷ xs) x all own are is =
+    let front : passed ++ y ∷ xs ≡ (passed ++ y ∷ []) ++ xs = sym (append_assoc passed (y ∷ []) xs) in
+    let behind : before ++ all ≡ (before ++ are.0) ++ are.1 = ap (λ s. before ++ s) are.2 ∙ sym (append_assoc before are.0 are.1) in
+    let is = subst (λ s. One (passed ++ y ∷ xs) s x own) behind is in (
       are.0,
       are.1 ++ own,
       ap (λ s. s ++ own) are.2 ∙ append_assoc are.0 are.1 own,
       are.3,
-      of_one_more_behind One (before ++ are.0) xs x are.1 own are.4 (subst (λ s. One s x own) behind is),
+      of_one_more_behind One (passed ++ y ∷ []) (before ++ are.0) xs x are.1 own are.4 (subst (λ s. One s ((before ++ are.0) ++ are.1) x own) front is),
     )

@@ -11,3 +11,8 @@ pub mod Tasks
 pub mod Waiting
 pub mod GroupStandings
 pub mod Elections
+pub mod Beside
+pub mod Flows
+pub mod Delivering
+pub mod Times
+pub mod TakenOut

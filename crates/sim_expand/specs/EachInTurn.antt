@@ -7,8 +7,9 @@ OfEach One [] all = all ≡ []
 OfEach {A} {B} One (x ∷ xs) all =
     (own : List B) × (others : List B) × (all ≡ own ++ others) × One x own × OfEach One xs others
 
--- the same, where what comes of each rests on what came before it too
-abbrev pub OfEachBehind : {A B : Type 0} → (List B → A → List B → Type 0) → List B → List A → List B → Type 0
-OfEachBehind One before [] all = all ≡ []
-OfEachBehind {A} {B} One before (x ∷ xs) all =
-    (own : List B) × (others : List B) × (all ≡ own ++ others) × One before x own × OfEachBehind One (before ++ own) xs others
+-- the same, where what comes of each rests also on those before it, and on what came of them
+abbrev pub OfEachBehind : {A B : Type 0} → (List A → List B → A → List B → Type 0) → List A → List B → List A → List B → Type 0
+OfEachBehind One passed before [] all = all ≡ []
+OfEachBehind {A} {B} One passed before (x ∷ xs) all =
+    (own : List B) × (others : List B) × (all ≡ own ++ others) × One passed before x own
+    × OfEachBehind One (passed ++ x ∷ []) (before ++ own) xs others

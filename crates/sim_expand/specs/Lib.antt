@@ -1,5 +1,6 @@
 pub mod EachInTurn
 pub mod ShortSteps
+pub mod Counts
 pub mod Shorts
 pub mod Expanded
 pub mod Plains

@@ -1,5 +1,6 @@
 -- The steps of a scenario in short form.
-use Rattle.std.specs.Prelude.{◌*◌, ℕ, List, Option, length, string_bytes, unwrap_or}
+use Rattle.std.specs.Prelude.{ℕ, Bool, true, false, List, Option, length, string_bytes}
+use Rattle.std.specs.List.{list_any}
 use Rattle.sim_expand.specs.declared.short.ShortStep.{ShortStep}
 use Rattle.sim_expand.specs.declared.short.ShortStep.TheVariants.{Plain, Settle, Elect}
 
@@ -14,20 +15,14 @@ short_step (Plain line) = AsItStands (string_bytes line)
 short_step (Settle count) = Settles count
 short_step Elect = Elects
 
--- so many lines a `settle` takes at most each time that it does something: that by which a client
--- asks for its list, of 64 clients, and a `flow`
-abbrev pub most_at_once : ℕ
-most_at_once = 65
+abbrev pub is_elect : Short → Bool
+is_elect (AsItStands line) = false
+is_elect (Settles count) = false
+is_elect Elects = true
 
--- so many lines a `settle elect` takes at most
-abbrev pub most_elected : ℕ
-most_elected = 10_000
-
--- how many lines a step comes to at most: a `settle` without a number does something 1,000 times
-abbrev pub most_lines : Short → ℕ
-most_lines (AsItStands line) = 1
-most_lines (Settles count) = unwrap_or count 1000 * most_at_once
-most_lines Elects = most_elected
+-- a `settle elect` is among these
+abbrev pub has_elect : List Short → Bool
+has_elect steps = list_any is_elect steps
 
 -- how many bytes the line of a step has that is taken as it stands
 abbrev pub line_bytes : Short → ℕ

@@ -3,6 +3,7 @@
 
 pub mod checking;
 pub mod expanding;
+mod flowing;
 pub mod plain;
 mod settling;
 pub mod short;

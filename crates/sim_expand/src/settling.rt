@@ -3,7 +3,7 @@ ghost use Rattle.std.specs.Prelude.{◌≡◌, ◌≤◌, false, true, IfOk, Mat
 ghost use Rattle.std.specs.Prelude.{string_bytes};
 ghost use Rattle.std.specs.List.{All, list_any};
 ghost use Rattle.rows.specs.Fits.{NodeIdFits};
-ghost use Rattle.sim_scenario.specs.Complaints.{IsStepLine};
+ghost use Rattle.sim_expand.specs.Inner.Taking.{IsNoFlowLine};
 ghost use Rattle.sim_expand.specs.Inner.Firsts.{first_of};
 ghost use Rattle.sim_expand.specs.Inner.Standings.{may_commit};
 ghost use Rattle.sim_expand.specs.Inner.Uses.{goes_on};
@@ -130,35 +130,35 @@ fn may_commit(servers: &[ServerStanding], own: &ServerStanding) -> bool
 
 /// The line by which a server's workers go on.
 pub(crate) fn work_line(alloc: Global, server: ServerId) -> Result<String, AllocError>
-    ensures { IfOk result (λ line. IsStepLine (string_bytes line)) }
+    ensures { IfOk result (λ line. IsNoFlowLine (string_bytes line)) }
 {
     format!(in alloc; "work {server}")
 }
 
 /// The line by which a server weighs a plan.
 pub(crate) fn plan_line(alloc: Global, server: ServerId) -> Result<String, AllocError>
-    ensures { IfOk result (λ line. IsStepLine (string_bytes line)) }
+    ensures { IfOk result (λ line. IsNoFlowLine (string_bytes line)) }
 {
     format!(in alloc; "plan {server}")
 }
 
 /// The line by which a server sends what the others lack.
 pub(crate) fn beat_line(alloc: Global, server: ServerId) -> Result<String, AllocError>
-    ensures { IfOk result (λ line. IsStepLine (string_bytes line)) }
+    ensures { IfOk result (λ line. IsNoFlowLine (string_bytes line)) }
 {
     format!(in alloc; "beat {server}")
 }
 
 /// The line by which a server's workers ask it for an evaluation.
 pub(crate) fn take_line(alloc: Global, server: ServerId) -> Result<String, AllocError>
-    ensures { IfOk result (λ line. IsStepLine (string_bytes line)) }
+    ensures { IfOk result (λ line. IsNoFlowLine (string_bytes line)) }
 {
     format!(in alloc; "take {server} {server}")
 }
 
 fn pull_line(alloc: Global, client: usize, server: ServerId) -> Result<String, AllocError>
     requires { NodeIdFits client }
-    ensures { IfOk result (λ line. IsStepLine (string_bytes line)) }
+    ensures { IfOk result (λ line. IsNoFlowLine (string_bytes line)) }
 {
     format!(in alloc; "pull {client} {server}")
 }
@@ -170,7 +170,7 @@ pub(crate) fn pull_lines(
     server: ServerId,
     news: bool,
 ) -> Result<Vec<String>, NoMemory>
-    ensures steps { IfOk result (λ lines. All IsStepLine (map string_bytes lines.items)) }
+    ensures steps { IfOk result (λ lines. All IsNoFlowLine (map string_bytes lines.items)) }
     ensures few { IfOk result (λ lines. length lines.items ≤ 64) }
 {
     let mut lines = Vec::new(alloc);

@@ -21,8 +21,8 @@ use std::alloc::Global;
 use workers::{Handled, ServerWorkers};
 use world::{Done, World};
 
-// How many messages a `flow` without a number takes at most.
-const FLOW: u64 = 10_000;
+/// How many messages a `flow` without a number takes at most.
+pub const FLOW: u64 = 10_000;
 
 /// A group, its messages in flight, what becomes of them, and its workers.
 #[derive(Drop)]
@@ -213,9 +213,9 @@ impl Play {
         Ok(())
     }
 
-    // The message in flight that comes next. By lot it is the one at the place that a word gives;
-    // where nothing is in flight no word is drawn.
-    fn take_message(&mut self) -> Option<u64>
+    /// Takes the message in flight that comes next out of flight. By lot it is the one at the place
+    /// that a word gives; where nothing is in flight no word is drawn.
+    pub fn take_message(&mut self) -> Option<u64>
         ensures some { IfSome result (λ message. MessageTaken self.old message self.new) }
         ensures none { IfNone result (self.old.flight.waiting ≡ []) }
         ensures left { IfNone result (self.new ≡ self.old) }

@@ -8,4 +8,4 @@ use Rattle.sim_expand.proofs.settling.plan_line.Goals as goal
 pub returns : goal.returns
 returns c =
     let fits : c.args.server < 5 = search rules in
-    if_says c.format.result _ (AnEvent (AtServer c.args.server PlanTurn), ((fits, tt), refl)) c.format.ensures.ok
+    if_says c.format.result _ (AnEvent (AtServer c.args.server PlanTurn)) ((fits, tt), refl) refl c.format.ensures.ok

@@ -3,7 +3,7 @@ use Rattle.std.specs.List.{All}
 use Rattle.std.proofs.lemmas.List.{length-map, map-append}
 use Rattle.std.proofs.lemmas.List.Elements.{All-append, All-cons, All-nil}
 use Rattle.world.specs.GroupView.{node_in}
-use Rattle.sim_scenario.specs.Complaints.{IsStepLine}
+use Rattle.sim_expand.specs.Inner.Taking.{IsNoFlowLine}
 use Rattle.sim_expand.proofs.settling.pull_lines.Goals as goal
 use Rattle.sim_expand.proofs.settling.pull_lines.Goals.{else-branch, then-branch+in_ok-pull_line+in_ok-push}
 
@@ -11,7 +11,7 @@ pub loop-place-init : goal.loop-place-init
 loop-place-init c =
     let none : c.new-lines.result.items ≡ [] = c.new-lines.ensures.items in
     let count : length c.new-lines.result.items ≡ 0 = ap length none in
-    record { steps = rw none (All-nil IsStepLine); few = omega (arith, count) }
+    record { steps = rw none (All-nil IsNoFlowLine); few = omega (arith, count) }
 
 pub pull_line-requires : goal.pull_line-requires
 pull_line-requires c =
@@ -31,8 +31,8 @@ loop-place-preserved c =
           let own = w.in_ok-pull_line.field-0 in
           let put : w.push.new.self.items ≡ old ++ own ∷ [] = w.in_ok-push.ensures.items in
           let count : length w.push.new.self.items ≡ length old + 1 = ap length put ∙ length-append old (own ∷ []) in
-          let steps : All IsStepLine (map string_bytes old ++ string_bytes own ∷ []) =
-          All-append IsStepLine (map string_bytes old) (string_bytes own ∷ []) was.steps (All-cons IsStepLine (string_bytes own) [] w.in_ok-pull_line.ensures (All-nil IsStepLine)) in
+          let steps : All IsNoFlowLine (map string_bytes old ++ string_bytes own ∷ []) =
+          All-append IsNoFlowLine (map string_bytes old) (string_bytes own ∷ []) was.steps (All-cons IsNoFlowLine (string_bytes own) [] w.in_ok-pull_line.ensures (All-nil IsNoFlowLine)) in
           rw w.lines-is (record { steps = rw (put, map-append string_bytes old (own ∷ [])) steps; few = omega (arith, before, count) })
       | else-branch w ↦ rw w.lines-is (record { steps = was.steps; few = omega (arith, before) })
     ]

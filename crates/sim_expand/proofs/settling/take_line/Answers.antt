@@ -8,4 +8,4 @@ use Rattle.sim_expand.proofs.settling.take_line.Goals as goal
 pub returns : goal.returns
 returns c =
     let fits : c.args.server < 5 = search rules in
-    if_says c.format.result _ (AnEvent (AtServer c.args.server (TakeFrom c.args.server)), ((fits, fits), refl)) c.format.ensures.ok
+    if_says c.format.result _ (AnEvent (AtServer c.args.server (TakeFrom c.args.server))) ((fits, fits), refl) refl c.format.ensures.ok

@@ -6,4 +6,4 @@ use Rattle.sim_expand.proofs.settling.work_line.Goals as goal
 pub returns : goal.returns
 returns c =
     let fits : c.args.server < 5 = search rules in
-    if_says c.format.result _ (Work c.args.server, (fits, refl)) c.format.ensures.ok
+    if_says c.format.result _ (Work c.args.server) (fits, refl) refl c.format.ensures.ok

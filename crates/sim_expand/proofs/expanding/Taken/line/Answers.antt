@@ -1,4 +1,4 @@
-use Rattle.std.proofs.Common.{◌≡◌, ◌∙◌, ◌+◌, ◌<◌, ◌++◌, ◌∷◌, [], Err, ap, arith, inl, inr, length, length-append, refl, rules, string_bytes}
+use Rattle.std.proofs.Common.{◌≡◌, ◌∙◌, ◌+◌, ◌<◌, ◌≤◌, ◌++◌, ◌∷◌, [], Err, ap, arith, false, inl, inr, length, length-append, refl, rules, string_bytes}
 use Rattle.sim_play.specs.Played.{refused_as}
 use Rattle.sim_expand.proofs.Taking.{line_taken, pushed_line}
 use Rattle.sim_expand.proofs.expanding.Taken.line.Goals as goal
@@ -13,15 +13,10 @@ returns-clause-ok c =
     let put = pushed_line old.lines.items c.push.new.self.items own line pushed text in
     let short : length old.lines.items < 1_000_000 = search rules in
     let count : length c.push.new.self.items ≡ length old.lines.items + 1 = ap length pushed ∙ length-append old.lines.items (own ∷ []) in
-    record {
-      settings = refl;
-      nodes = refl;
-      lines = put;
-      stands = record {
-        led = line_taken old c.play_line.new.play line (refused_as line c.in_ok-play_line.field-0) c.push.new.self.items c.requires c.in_ok-play_line.ensures.played (search rules) put;
-        few = omega (arith, short, count);
-      };
-    }
+    let few : length c.push.new.self.items ≤ 1_000_000 = omega (arith, short, count) in
+    let found : c.play_line.new.play.lacked ≡ false = search rules in
+    let new = record old { play = c.play_line.new.play; lines = c.push.new.self } in
+    line_taken old new line (refused_as line c.in_ok-play_line.field-0) c.requires.stands c.requires.may_stand c.in_ok-play_line.ensures.played found refl refl refl put few
 
 pub returns-in_err-play_line-clause-refused : goal.returns-in_err-play_line-clause-refused
 returns-in_err-play_line-clause-refused c =
