@@ -7,7 +7,7 @@ ghost use Rattle.sim_recovery.specs.Steps.{AreCounts, is_delivery, is_input_of, 
 use group_inputs::{Event, ServerInput};
 
 /// A kind of events.
-#[derive(Clone, Copy, Debug, PartialEq, Eq)]
+#[derive(Clone, Copy)]
 pub enum Kind {
     /// A server that is down starts again.
     Restart,
@@ -20,7 +20,7 @@ pub enum Kind {
 }
 
 /// How many events there are, by their kinds.
-#[derive(Clone, Copy, Debug, PartialEq, Eq)]
+#[derive(Clone, Copy)]
 pub struct Counts {
     /// Restarts of servers.
     pub restarts: usize,

@@ -5,7 +5,7 @@ ghost use Rattle.sim_recovery.specs.declared.fault.RecoveryError.TheVariants as 
 use rows::NoMemory;
 
 /// Why it is not told what brings a group back.
-#[derive(Clone, Copy, Debug, PartialEq, Eq)]
+#[derive(Clone, Copy)]
 pub enum RecoveryError {
     /// There was no memory: for the text, or for an actor of the group.
     NoMemory,

@@ -18,7 +18,7 @@ use std::alloc::Global;
 pub const MOST_ROWS: usize = 1_000;
 
 /// What brings a group back from one moment of a run.
-#[derive(Clone, Copy, Debug, PartialEq, Eq)]
+#[derive(Clone, Copy)]
 pub struct WayRow {
     /// After how many events.
     pub after: usize,
