@@ -1,0 +1,9 @@
+pub mod ReadItems
+pub mod HandedIn
+pub mod Passed
+pub mod Sending
+pub mod Looks
+pub mod Tickets
+pub mod Standing
+pub mod Serving
+pub mod Lives

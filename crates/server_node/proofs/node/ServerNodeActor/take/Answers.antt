@@ -1,0 +1,23 @@
+use Rattle.std.proofs.Common.{arith, subst}
+use Rattle.std.proofs.lemmas.Result.{on_ok_weaker}
+use Rattle.server_node.specs.Inner.Going.{WentBy}
+use Rattle.server_node.proofs.Serving.{turn_kept, turn_made}
+use Rattle.server_node.proofs.node.ServerNodeActor.take.Goals as goal
+
+pub returns-clause-turn : goal.returns-clause-turn
+returns-clause-turn c =
+    let went = subst (λ l. WentBy c.args.item.now c.args.self.now c.take_item.new.self c.args.change.now c.take_item.new.change c.args.outs.now.items c.take_item.new.frames.items l c.take_item.new.answers.items c.in_ok-ticket.ticket)
+    c.new-answers.ensures.items c.in_ok-ticket.ensures in
+    on_ok_weaker c.put_all.result
+    (turn_made c.args.item.now c.args.self.now c.take_item.new.self c.tell_settled.new.self c.args.change.now c.take_item.new.change c.take_item.new.frames.items c.take_item.new.answers.items c.tell_settled.new.answers.items
+    c.args.outs.now.items c.put_all.new.outs.items c.in_ok-ticket.ticket (λ i. omega (arith, c.type_inv.item i)) went c.in_ok-tell_settled.ensures)
+    c.put_all.ensures
+
+pub returns-clause-change : goal.returns-clause-change
+returns-clause-change c =
+    let went = subst (λ l. WentBy c.args.item.now c.args.self.now c.take_item.new.self c.args.change.now c.take_item.new.change c.args.outs.now.items c.take_item.new.frames.items l c.take_item.new.answers.items c.in_ok-ticket.ticket)
+    c.new-answers.ensures.items c.in_ok-ticket.ensures in
+    on_ok_weaker c.put_all.result
+    (λ put. turn_kept c.args.item.now c.args.self.now c.take_item.new.self c.tell_settled.new.self c.args.change.now c.take_item.new.change c.take_item.new.frames.items c.take_item.new.answers.items c.tell_settled.new.answers.items
+    c.args.outs.now.items c.in_ok-ticket.ticket went c.in_ok-tell_settled.ensures)
+    c.put_all.ensures

@@ -1,0 +1,9 @@
+use Rattle.std.proofs.Common.{◌∙◌, ◌++◌, ◌∷◌, [], List, ℕ, ap, map}
+use Rattle.std.proofs.lemmas.Result.{on_ok_weaker}
+use Rattle.journal.specs.Savings.{output_event}
+use Rattle.server_node.specs.Answers.{answer}
+use Rattle.server_node.proofs.Standing.{unread_is}
+use Rattle.server_node.proofs.node.tell_unread.Goals as goal
+
+pub returns : goal.returns
+returns c = on_ok_weaker c.put_answer.result (λ put. put ∙ ap (λ (t : List ℕ). map output_event c.args.answers.now.items ++ answer c.args.id t ∷ []) (c.as_bytes.ensures.value ∙ unread_is)) c.put_answer.ensures
