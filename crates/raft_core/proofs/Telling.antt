@@ -27,7 +27,7 @@ use Rattle.raft_core.specs.Inputs.{Handed, Bytes, Own}
 use Rattle.raft_core.specs.RaftView.{RaftView}
 use Rattle.raft_core.specs.Refusals.{message_fault, misdirected}
 use Rattle.raft_core.specs.StoredParts.{KeepsLog, MayKeepLog}
-use Rattle.raft_core.specs.Inner.Moves.{Moves, MovesBy, MovesFrame, Shows, WasRead, IsReadIn, base_left}
+use Rattle.raft_core.specs.Inner.Moves.{Moves, MovesBy, MovesFrame, MovesMessage, Shows, WasRead, IsReadIn, base_left}
 
 module _ {S C : Type 0} (m : MachineSpec S C) where
   same_keeps : (old new : RaftView S C) → new ≡ old → KeepsLog old new
@@ -155,3 +155,17 @@ module _ {S C : Type 0} (m : MachineSpec S C) where
           said = said.said;
         };
       }
+
+  kind_case : (b : Bool) (n me : ℕ) (from to : Actor) → cond b (misdirected n me from to) (Some (refusals.Frame 1)) ≡ None → b ≡ true
+  kind_case true n me from to e = refl
+  kind_case false n me from to e = absurd cc
+
+  -- so does a message that came, and in which nothing is wrong
+  pub message_keeps : (old new : RaftView S C) (before after : List Frame) → old.server.commit ≤ length old.server.log → IsCompacted old.base old.server → IsCompacted new.base new.server
+      → (read : WireMessage S C) → message_fault old.size old.me read ≡ None → MovesMessage m old read new before after → new.base.index ≡ old.base.index → KeepsLog old new
+  message_keeps old new before after reaches shown now read right moves =
+      let of_log = kind_case (is_of_log (kind_of read.body)) old.size old.me read.from read.to right in
+      let a = addressed old.size old.me read.from read.to (fault_case (is_of_log (kind_of read.body)) old.size old.me read.from read.to right) in
+      let said = says a.0 a.1 read.body of_log in
+      let move = moves said.message (record { from = a.2 ∙ ap actors.Server (sym said.from_is); to = a.3 ∙ ap actors.Server (sym said.to_is); said = said.said }) in
+      moved old new before after reaches shown now (base_left old read.body) (Arrives said.message) move (left_same old new.base read.body shown move.taken.base)

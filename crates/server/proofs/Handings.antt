@@ -23,6 +23,7 @@ use Rattle.raft_model.specs.Rafts.{RaftTurn, is_up, is_leader, crashed, silent, 
 use Rattle.raft_model.specs.Steps as raft_steps
 use Rattle.raft_core.specs.Frames.{Means}
 use Rattle.raft_core.specs.Inputs.{Own}
+use Rattle.raft_core.specs.StoredParts.{KeepsLog}
 use Rattle.raft_core.specs.Refusals.{misdirected, message_fault, message_refusal, refusal_by, IsRefused, HidesNothing, IsMessageRefused, Stays, MessageStays}
 use Rattle.fsm_model.specs.Words.{State}
 use Rattle.fsm_model.specs.ClusterMachine.{cluster_spec}
@@ -39,6 +40,8 @@ use Rattle.server.specs.Steps.{TakesTurn, TakesHanding}
 use Rattle.server.specs.Refusals.{refusal_in, wrong_address, read_refusal, bytes_refusal, handing_refusal, CanStand, OutOfMemoryMayEnd, IsHandingRefused, HandingRefusalLeaves, HandingStays}
 use Rattle.server.specs.Inner.Acts.{EachServer, EachDoes, act_of, OutOfMemoryTurn, DoesNothing, DeclinesOwn}
 use Rattle.server.specs.Inner.LogSteps.{DeskAfterRefusal, TakesLogMessage, TakesAsk, MeansGroup, TakesRead, DeclinesRead, IsRead, LosesIn, DeclinesHanding, IsTaken}
+use Rattle.server.specs.Keeping.{MayKeepHanding, StandsLast}
+use Rattle.server.proofs.Keeping.{on_ok}
 use Rattle.server.proofs.Servers.{up_of}
 
 abbrev Answer : Type 0
@@ -84,14 +87,16 @@ module _ (old new : ServerView) (h : Handing) (input : Input) (is : h ≡ OwnInp
   silent_declined loses (Ok u) d = tt
   silent_declined loses (Err cause) d = own_declined old new o o h input is up loses (Err cause) (d o)
 
-  pub silent_turn : (new.raft.me ≡ old.raft.me) × (new.raft.size ≡ old.raft.size)
+  pub silent_turn : (new.raft.me ≡ old.raft.me) × (new.raft.size ≡ old.raft.size) → MayKeepHanding (OwnInput input) old.raft new.raft → StandsLast (OwnInput input) new
       → (EachServer old (λ s. OutOfMemoryMayEnd old.raft.size s input) × OutOfMemoryTurn old new o o → LosesIn old (OwnInput input) new o o) → (r : Answer)
       → OnOk r ((out : Outbox) → EachDoes old (act_of old input) new out out) → IfErr r (λ cause. (out : Outbox) → DeclinesOwn old input cause new out out)
       → IsTaken old h r new o o
-  silent_turn same loses r does stopped = record {
+  silent_turn same keeps stands loses r does stopped = record {
     same = same;
     taken = silent_taken r does;
     admitted = silent_admitted r does;
+    keeps = on_ok r (subst (λ x. MayKeepHanding x old.raft new.raft) (sym is) keeps);
+    stands = on_ok r (subst (λ x. StandsLast x new) (sym is) stands);
     stopped = silent_declined loses r stopped;
   }
 
@@ -205,15 +210,17 @@ module _ (old new : ServerView) (before after : Outbox) (read : WireMessage Stat
       → (new.raft.me ≡ old.raft.me) × (new.raft.size ≡ old.raft.size)
       → OnOk r ((said : Message Command) → Means cluster_spec read said → TakesLogMessage old said new before after)
       → OnOk r (EachServer old (λ s. message_refusal old.raft.size old.raft.me s.raft read ≡ None))
+      → OnOk r (new.raft.base.index ≡ old.raft.base.index → KeepsLog old.raft new.raft)
       → IfErr r (λ cause. EachServer old (λ s. IsMessageRefused old.raft.size old.raft.me s.raft read cause))
       → IfErr r (λ cause. MessageStays cause old.raft new.raft)
       → IfErr r (λ cause. DeskAfterRefusal cause old.desk new.desk)
       → OnErr r (after ≡ before)
       → IsRead old read r new before after
-  log_is_read r same heard none is left desk unsent = record {
+  log_is_read r same heard none keeps is left desk unsent = record {
     same = same;
     taken = log_taken r heard;
     admitted = log_admitted r none;
+    keeps = keeps;
     stopped = log_stops same.0 same.1 r is left desk unsent;
   }
 
@@ -283,16 +290,19 @@ module _ (old new : ServerView) (before after : Outbox) (up : is_up old.raft.ser
   pub timeout_taken : (r : Answer)
       → (new.raft.me ≡ old.raft.me) × (new.raft.size ≡ old.raft.size)
       → OnOk r (TakesAsk old (Some AskTimeout) new before after)
+      → OnOk r (MayKeepHanding (OwnInput Timeout) old.raft new.raft)
       → IfErr r (λ cause. EachServer old (λ s. IsRefused cluster_spec old.raft.size old.raft.me s.raft (Own raft_steps.Timeout) cause))
       → IfErr r (λ cause. EachServer old (λ s. HidesNothing cluster_spec old.raft.size old.raft.me s.raft (Own raft_steps.Timeout) cause))
       → IfErr r (λ cause. Stays (Own raft_steps.Timeout) cause old.raft new.raft)
       → IfErr r (λ cause. DeskAfterRefusal cause old.desk new.desk)
       → OnErr r (after ≡ before)
       → IsTaken old (OwnInput Timeout) r new before after
-  timeout_taken r same does is hides left desk unsent = record {
+  timeout_taken r same does keeps is hides left desk unsent = record {
     same = same;
     taken = own_taken old new before after (OwnInput Timeout) Timeout refl up r does;
     admitted = own_admitted old new before after (OwnInput Timeout) Timeout refl up r does;
+    keeps = keeps;
+    stands = on_ok r tt;
     stopped = timeout_stopped same.0 same.1 r is hides left desk unsent;
   }
 
@@ -348,5 +358,7 @@ module _ (old new : ServerView) (before after : Outbox) (bytes : List ℕ) (read
       same = got.same;
       taken = read_taken r got.taken;
       admitted = read_admitted r got.admitted;
+      keeps = got.keeps;
+      stands = on_ok r tt;
       stopped = read_stopped r got.stopped;
     }

@@ -1,4 +1,5 @@
 pub mod Servers
+pub mod Keeping
 pub mod DeskCalls
 pub mod Serving
 pub mod Requests

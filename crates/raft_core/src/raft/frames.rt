@@ -7,6 +7,7 @@ ghost use Rattle.raft_model.specs.Steps.{receives};
 ghost use Rattle.wire.specs.Messages.{log_body};
 ghost use Rattle.raft_core.specs.Frames.{log_message};
 ghost use Rattle.raft_core.specs.Steps.{RefinesRaft, TakesMessage};
+ghost use Rattle.raft_core.specs.StoredParts.{KeepsLog};
 ghost use Rattle.raft_core.specs.Inner.Turns.{TurnTaken, OutOfMemoryTurn};
 ghost use Rattle.raft_core.specs.Inner.Moves.{MovesMessage, MovesFrame, WasRead, base_left};
 ghost use Rattle.raft_core.specs.Inner.Stops.{FrameStops, MessageStops};
@@ -133,6 +134,8 @@ impl<M: Machine> Raft<M> {
         ensures admitted { OnOk result ((s : AnyRaft M.Command) → RefinesRaft M.spec self.old s →
             message_refusal self.old.size self.old.me s message ≡ None) }
         ensures kept { OnOk result (KeepsProjected self.old self.new) }
+        ensures keeps { OnOk result (self.new.base.index ≡ self.old.base.index →
+            KeepsLog self.old self.new) }
         ensures refused { IfErr result (λ cause. (s : AnyRaft M.Command) →
             RefinesRaft M.spec self.old s →
             IsMessageRefused self.old.size self.old.me s message cause) }
@@ -151,6 +154,7 @@ impl<M: Machine> Raft<M> {
         }
         let before = outbox.len();
         self.covered_is_committed();
+        self.committed();
         match self.handle_message(message, outbox, watch) {
             Ok(()) => {
                 self.covered_is_committed();

@@ -8,6 +8,7 @@ use Rattle.raft_model.specs.Messages.{Message}
 use Rattle.raft_core.specs.declared.input.Input.{Input as RaftInput}
 use Rattle.raft_core.specs.declared.input.Input.TheVariants as raft_inputs
 use Rattle.raft_core.specs.RaftView.{SameNumber}
+use Rattle.raft_core.specs.StoredParts.{KeepsLog}
 use Rattle.raft_core.specs.Frames.{Means}
 use Rattle.fsm_model.specs.Words.{State}
 use Rattle.fsm_model.specs.ClusterMachine.{cluster_spec}
@@ -19,6 +20,7 @@ use Rattle.leader.specs.OpenDesks.{OpenDesk}
 use Rattle.server.specs.declared.server.Outbox.{Outbox}
 use Rattle.server.specs.ServerViews.{ServerView}
 use Rattle.group_inputs.specs.Handings.{Handing, OwnInput}
+use Rattle.server.specs.Keeping.{MayKeepHanding, StandsLast}
 use Rattle.server.specs.Steps.{TakesTurn, TakesHanding, takes_in}
 use Rattle.server.specs.Refusals.{MayEndOutOfMemory, handing_refusal, wrong_address}
 use Rattle.server.specs.Inner.Acts.{EachServer, EachDoes, OutOfMemoryTurn, DoesNothing}
@@ -76,6 +78,7 @@ pub record IsRead (old : ServerView) (read : WireMessage State Command) (result 
   pub same : SameNumber old.raft new.raft
   pub taken : OnOk result (EachServer old (λ s. TakesRead old s read new before after))
   pub admitted : OnOk result (EachServer old (λ s. wrong_address old.raft.size old.raft.me read.from read.to ≡ None))
+  pub keeps : OnOk result (new.raft.base.index ≡ old.raft.base.index → KeepsLog old.raft new.raft)
   pub stopped : IfErr result (λ cause. DeclinesRead old read cause new before after)
 
 -- ---- what is handed in, to a server that is up
@@ -97,4 +100,6 @@ pub record IsTaken (old : ServerView) (h : Handing) (result : Result (Unit {0}) 
   pub same : SameNumber old.raft new.raft
   pub taken : OnOk result (EachServer old (λ s. TakesHanding old s h new before after))
   pub admitted : OnOk result (EachServer old (λ s. handing_refusal old.raft.size old.raft.me s h ≡ None))
+  pub keeps : OnOk result (MayKeepHanding h old.raft new.raft)
+  pub stands : OnOk result (StandsLast h new)
   pub stopped : IfErr result (λ cause. DeclinesHanding old h cause new before after)

@@ -4,6 +4,7 @@ ghost use Rattle.raft_model.specs.Rafts.{Raft as AnyRaft, is_up, is_leader};
 ghost use Rattle.raft_core.specs.Steps.{RefinesRaft};
 ghost use Rattle.rows.specs.declared.command.Command.{Command};
 ghost use Rattle.fsm_model.specs.ClusterMachine.{cluster_spec};
+ghost use Rattle.raft_core.specs.StoredParts.{KeepsLog};
 ghost use Rattle.raft_core.specs.RaftView.{SameNumber, SameRaft};
 ghost use Rattle.group_model.specs.Desks.{projected_state};
 ghost use Rattle.group_model.specs.Messages.{Register, Heartbeat, Pull, ReportStates};
@@ -64,6 +65,7 @@ impl Server {
     ) -> Result<(), NoMemory>
         requires { is_up self.old.raft.server.mode ≡ true }
         ensures same { SameNumber self.old.raft self.new.raft }
+        ensures keeps { KeepsLog self.old.raft self.new.raft }
         ensures taken { OnOk result (EachDoes self.old (write_act self.old client kind command)
             self.new outbox.old outbox.new) }
         ensures lost { OnErr result (OutOfMemoryTurn self.old self.new outbox.old outbox.new) }
@@ -101,6 +103,7 @@ impl Server {
     ) -> Result<(), NoMemory>
         requires { is_up self.old.raft.server.mode ≡ true }
         ensures same { SameNumber self.old.raft self.new.raft }
+        ensures keeps { KeepsLog self.old.raft self.new.raft }
         ensures taken { OnOk result (
             EachDoes self.old (client_act self.old client (Register class size))
             self.new outbox.old outbox.new) }
@@ -125,6 +128,7 @@ impl Server {
     ) -> Result<(), NoMemory>
         requires { is_up self.old.raft.server.mode ≡ true }
         ensures same { SameNumber self.old.raft self.new.raft }
+        ensures keeps { KeepsLog self.old.raft self.new.raft }
         ensures taken { OnOk result (
             EachDoes self.old (client_act self.old client (ReportStates items))
             self.new outbox.old outbox.new) }
@@ -147,6 +151,7 @@ impl Server {
     ) -> Result<(), NoMemory>
         requires { is_up self.old.raft.server.mode ≡ true }
         ensures same { SameNumber self.old.raft self.new.raft }
+        ensures keeps { KeepsLog self.old.raft self.new.raft }
         ensures taken { OnOk result (EachDoes self.old (client_act self.old client Heartbeat)
             self.new outbox.old outbox.new) }
         ensures lost { OnErr result (OutOfMemoryTurn self.old self.new outbox.old outbox.new) }

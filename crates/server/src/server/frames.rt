@@ -8,6 +8,7 @@ ghost use Rattle.raft_model.specs.Rafts.{is_up};
 ghost use Rattle.raft_core.specs.Refusals.{is_server_at};
 ghost use Rattle.group_model.specs.Messages.{ServiceMessage};
 ghost use Rattle.group_model.specs.Inputs.{Arrives};
+ghost use Rattle.raft_core.specs.StoredParts.{KeepsLog};
 ghost use Rattle.raft_core.specs.RaftView.{SameNumber};
 ghost use Rattle.group_model.specs.Servers.{step};
 ghost use Rattle.group_frames.specs.GroupFrames.{service_between};
@@ -208,6 +209,7 @@ impl Server {
         requires service { is_of_log (kind_of body) ≡ false }
         requires goes { may_go (kind_of body) from (actors.Server self.old.raft.me) ≡ true }
         ensures same { SameNumber self.old.raft self.new.raft }
+        ensures keeps { KeepsLog self.old.raft self.new.raft }
         ensures taken { OnOk result (EachServer self.old (λ s. (message : ServiceMessage) →
             service_between from (actors.Server self.old.raft.me) body ≡ Some message →
             TakesTurn (step self.old.raft.size self.old.raft.me s (Arrives message))
@@ -267,6 +269,7 @@ impl Server {
     ) -> Result<(), NoMemory>
         requires { is_up self.old.raft.server.mode ≡ true }
         ensures same { SameNumber self.old.raft self.new.raft }
+        ensures keeps { KeepsLog self.old.raft self.new.raft }
         ensures taken { OnOk result (EachDoes self.old (request_act self.old from request) self.new
             outbox.old outbox.new) }
         ensures lost { OnErr result (OutOfMemoryTurn self.old self.new outbox.old outbox.new) }

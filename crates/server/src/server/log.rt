@@ -6,6 +6,7 @@ ghost use Rattle.raft_model.specs.Messages.{Message as MessageOf};
 ghost use Rattle.raft_model.specs.Rafts.{is_leader};
 ghost use Rattle.raft_core.specs.Frames.{Means};
 ghost use Rattle.raft_core.specs.Inputs.{handed};
+ghost use Rattle.raft_core.specs.StoredParts.{KeepsLog, MayKeepLog};
 ghost use Rattle.raft_core.specs.Refusals.{message_refusal, HidesNothing, IsRefused, IsMessageRefused, Stays, MessageStays};
 ghost use Rattle.fsm_model.specs.ClusterMachine.{cluster_spec};
 ghost use Rattle.server.specs.Inner.Acts.{EachServer};
@@ -36,6 +37,8 @@ impl Server {
         outbox: &mut Outbox,
     ) -> Result<(), Refusal>
         ensures same { SameNumber self.old.raft self.new.raft }
+        ensures keeps { OnOk result (self.new.raft.base.index ≡ self.old.raft.base.index →
+            KeepsLog self.old.raft self.new.raft) }
         ensures taken { OnOk result ((said : MessageOf Command) →
             Means cluster_spec message said →
             TakesLogMessage self.old said self.new outbox.old outbox.new) }
@@ -58,6 +61,7 @@ impl Server {
     pub(super) fn step_log(&mut self, input: Input<'_>, outbox: &mut Outbox) -> Result<(), Refusal>
         requires { log_ask input ≢ None }
         ensures same { SameNumber self.old.raft self.new.raft }
+        ensures keeps { OnOk result (MayKeepLog (handed input.entry) self.old.raft self.new.raft) }
         ensures taken { OnOk result (TakesAsk self.old (log_ask input.entry) self.new outbox.old
             outbox.new) }
         ensures refused { IfErr result (λ cause. EachServer self.old (λ s.

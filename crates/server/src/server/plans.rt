@@ -1,5 +1,6 @@
 //! What becomes of a plan that was judged.
 ghost use Rattle.std.specs.Prelude.{◌≡◌, ◌≤◌, List, Ok, OnOk, OnErr};
+ghost use Rattle.raft_core.specs.StoredParts.{KeepsLog};
 ghost use Rattle.raft_core.specs.RaftView.{SameNumber};
 ghost use Rattle.rows.specs.Ids.{AreRisingNodes};
 ghost use Rattle.rows.specs.declared.allocation.AllocId.{AllocId};
@@ -75,6 +76,7 @@ impl Server {
         requires serves { Serves self.old }
         requires rises { AreRisingNodes accepted.refused }
         ensures same { SameNumber self.old.raft self.new.raft }
+        ensures keeps { KeepsLog self.old.raft self.new.raft }
         ensures taken { let a = kept_by accepted in
             OnOk result ((w : AnyQueuedPlan) → KeptOf from accepted.plan a w →
             EachDoes self.old (settling self.old (record { queued = w; kept = Ok a }))
@@ -118,6 +120,7 @@ impl Server {
         requires proposal { IsProposal judged }
         requires rises { RefusesRising (judged_by judged) }
         ensures same { SameNumber self.old.raft self.new.raft }
+        ensures keeps { KeepsLog self.old.raft self.new.raft }
         ensures taken { OnOk result (EachDoes self.old (settling self.old (judged_by judged))
             self.new outbox.old outbox.new) }
         ensures lost { OnErr result (OutOfMemoryTurn self.old self.new outbox.old outbox.new) }

@@ -1,7 +1,9 @@
 //! Commands that the server proposes.
 ghost use Rattle.std.specs.Prelude.{◌≡◌, true, OnOk, OnErr, IfErr};
+ghost use Rattle.raft_core.specs.StoredParts.{KeepsLog};
 ghost use Rattle.raft_core.specs.RaftView.{SameNumber};
 ghost use Rattle.raft_model.specs.Rafts.{is_up};
+ghost use Rattle.server.specs.Keeping.{IsLastEntry};
 ghost use Rattle.server.specs.ServerViews.{SameServer};
 ghost use Rattle.server.specs.Inner.Acts.{EachServer, IsProposed, WhyNotProposed};
 
@@ -15,9 +17,13 @@ impl Server {
     pub(super) fn propose(&mut self, command: Command) -> Result<(), Refusal>
         requires { is_up self.old.raft.server.mode ≡ true }
         ensures same { SameNumber self.old.raft self.new.raft }
+        ensures keeps { KeepsLog self.old.raft self.new.raft }
         ensures desk { self.new.desk ≡ self.old.desk }
         ensures taken { OnOk result (
             EachServer self.old (λ s. IsProposed s command self.new)) }
+        // It is the last entry of the log, in the leader's own term.
+        ensures stands { OnOk result (
+            EachServer self.new (λ s. IsLastEntry s.raft command)) }
         ensures refused { IfErr result (λ cause.
             EachServer self.old (λ s. WhyNotProposed s.raft command cause)) }
         ensures unchanged { OnErr result (SameServer self.old self.new) }

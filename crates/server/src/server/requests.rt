@@ -1,5 +1,6 @@
 //! What workers ask of the leader's desk, and what it answers them.
 ghost use Rattle.std.specs.Prelude.{◌≡◌, ◌≢◌, true, Ok, Err, OnOk, OnErr, IfOk, IfErr};
+ghost use Rattle.raft_core.specs.StoredParts.{KeepsLog};
 ghost use Rattle.raft_core.specs.RaftView.{SameNumber};
 ghost use Rattle.rows.specs.declared.refusal.Refusal.TheVariants as refusals;
 ghost use Rattle.rows.specs.declared.worker.WorkerRequest.TheVariants as requests;
@@ -44,6 +45,7 @@ impl Server {
     pub(super) fn serve_take(&mut self, from: ServerId, outbox: &mut Outbox) -> Result<(), NoMemory>
         requires { is_up self.old.raft.server.mode ≡ true }
         ensures same { SameNumber self.old.raft self.new.raft }
+        ensures keeps { KeepsLog self.old.raft self.new.raft }
         ensures taken { OnOk result (EachDoes self.old (request_act self.old from requests.Take)
             self.new outbox.old outbox.new) }
         ensures lost { OnErr result (OutOfMemoryTurn self.old self.new outbox.old outbox.new) }
@@ -73,6 +75,7 @@ impl Server {
     ) -> Result<(), NoMemory>
         requires { is_up self.old.raft.server.mode ≡ true }
         ensures same { SameNumber self.old.raft self.new.raft }
+        ensures keeps { KeepsLog self.old.raft self.new.raft }
         ensures taken { OnOk result (
             EachDoes self.old (request_act self.old from (requests.Submit plan))
             self.new outbox.old outbox.new) }
@@ -103,6 +106,7 @@ impl Server {
     ) -> Result<(), NoMemory>
         requires { is_up self.old.raft.server.mode ≡ true }
         ensures same { SameNumber self.old.raft self.new.raft }
+        ensures keeps { KeepsLog self.old.raft self.new.raft }
         ensures taken { OnOk result (
             EachDoes self.old (request_act self.old from (requests.Finish eval token outcome))
             self.new outbox.old outbox.new) }
@@ -139,6 +143,7 @@ impl Server {
     ) -> Result<(), NoMemory>
         requires { is_up self.old.raft.server.mode ≡ true }
         ensures same { SameNumber self.old.raft self.new.raft }
+        ensures keeps { KeepsLog self.old.raft self.new.raft }
         ensures taken { OnOk result (
             EachDoes self.old (request_act self.old from (requests.Nack eval token))
             self.new outbox.old outbox.new) }

@@ -3,6 +3,7 @@ ghost use Rattle.std.specs.Prelude.{◌≡◌, true, false, None, take, OnOk, On
 ghost use Rattle.raft_model.specs.Rafts.{is_up};
 ghost use Rattle.raft_core.specs.RaftView.{SameNumber, IsCrashOf};
 ghost use Rattle.group_inputs.specs.Handings.{handing};
+ghost use Rattle.server.specs.Keeping.{MayKeepHanding, StandsLast};
 ghost use Rattle.server.specs.Steps.{TakesHanding};
 ghost use Rattle.server.specs.Refusals.{handing_refusal, IsHandingRefused};
 ghost use Rattle.server.specs.Answers.{HandedIn};
@@ -53,6 +54,8 @@ impl Server {
     fn restart_only(&mut self, input: ServerInput, outbox: &mut Outbox) -> Result<(), Refusal>
         requires { is_up self.old.raft.server.mode ≡ false }
         ensures same { SameNumber self.old.raft self.new.raft }
+        ensures keeps { OnOk result (MayKeepHanding (handing input) self.old.raft self.new.raft) }
+        ensures stands { OnOk result (StandsLast (handing input) self.new) }
         ensures taken { OnOk result (EachServer self.old (λ s.
             TakesHanding self.old s (handing input) self.new outbox.old outbox.new)) }
         ensures admitted { OnOk result (EachServer self.old (λ s.

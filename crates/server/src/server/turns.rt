@@ -5,6 +5,7 @@ ghost use Rattle.raft_core.specs.Steps.{RefinesRaft};
 ghost use Rattle.rows.specs.declared.command.Command.{Command};
 ghost use Rattle.fsm_model.specs.ClusterMachine.{cluster_spec};
 ghost use Rattle.fsm_model.specs.Words.{State};
+ghost use Rattle.raft_core.specs.StoredParts.{KeepsLog};
 ghost use Rattle.raft_core.specs.RaftView.{SameNumber, SameRaft};
 ghost use Rattle.rows.specs.Keys.{eval_id};
 ghost use Rattle.rows.specs.declared.refusal.Refusal.TheVariants as refusals;
@@ -137,6 +138,7 @@ impl Server {
     pub(super) fn plan_turn(&mut self, outbox: &mut Outbox) -> Result<(), Refusal>
         requires { is_up self.old.raft.server.mode ≡ true }
         ensures same { SameNumber self.old.raft self.new.raft }
+        ensures keeps { KeepsLog self.old.raft self.new.raft }
         ensures taken { OnOk result (EachDoes self.old (act_of self.old PlanTurn) self.new
             outbox.old outbox.new) }
         ensures stopped { IfErr result (λ cause.
@@ -153,6 +155,7 @@ impl Server {
     pub(super) fn lapse(&mut self, eval: EvalId) -> Result<(), Refusal>
         requires { is_up self.old.raft.server.mode ≡ true }
         ensures same { SameNumber self.old.raft self.new.raft }
+        ensures keeps { KeepsLog self.old.raft self.new.raft }
         // Whatever was sent and handed out before, nothing is.
         ensures taken { OnOk result ((out : AnyOutbox) →
             EachDoes self.old (act_of self.old (Lapse eval)) self.new out out) }
@@ -169,6 +172,7 @@ impl Server {
     pub(super) fn expire(&mut self, node: NodeId, beats: Index) -> Result<(), Refusal>
         requires { is_up self.old.raft.server.mode ≡ true }
         ensures same { SameNumber self.old.raft self.new.raft }
+        ensures keeps { KeepsLog self.old.raft self.new.raft }
         ensures taken { OnOk result ((out : AnyOutbox) →
             EachDoes self.old (act_of self.old (Expire node beats)) self.new out out) }
         ensures stopped { IfErr result (λ cause. (out : AnyOutbox) →
@@ -183,6 +187,7 @@ impl Server {
     pub(super) fn drain_turn(&mut self, node: NodeId) -> Result<(), Refusal>
         requires { is_up self.old.raft.server.mode ≡ true }
         ensures same { SameNumber self.old.raft self.new.raft }
+        ensures keeps { KeepsLog self.old.raft self.new.raft }
         ensures taken { OnOk result ((out : AnyOutbox) →
             EachDoes self.old (act_of self.old (DrainTurn node)) self.new out out) }
         ensures stopped { IfErr result (λ cause. (out : AnyOutbox) →
@@ -199,6 +204,7 @@ impl Server {
     pub(super) fn free_turn(&mut self) -> Result<(), Refusal>
         requires { is_up self.old.raft.server.mode ≡ true }
         ensures same { SameNumber self.old.raft self.new.raft }
+        ensures keeps { KeepsLog self.old.raft self.new.raft }
         ensures taken { OnOk result ((out : AnyOutbox) →
             EachDoes self.old (act_of self.old FreeTurn) self.new out out) }
         ensures stopped { IfErr result (λ cause. (out : AnyOutbox) →
@@ -215,6 +221,7 @@ impl Server {
     pub(super) fn reap(&mut self) -> Result<(), Refusal>
         requires { is_up self.old.raft.server.mode ≡ true }
         ensures same { SameNumber self.old.raft self.new.raft }
+        ensures keeps { KeepsLog self.old.raft self.new.raft }
         ensures taken { OnOk result ((out : AnyOutbox) →
             EachDoes self.old (act_of self.old Reap) self.new out out) }
         ensures stopped { IfErr result (λ cause. (out : AnyOutbox) →
