@@ -1,6 +1,7 @@
 //! What comes to a client.
 ghost use Rattle.std.specs.Prelude.{◌≡◌};
 ghost use Rattle.group_inputs.specs.declared.client_input.ClientInput.TheVariants as client_inputs;
+ghost use Rattle.client_agent.specs.AgentView.{StartsMore};
 ghost use Rattle.actor.specs.Answers.{ClientAnswers};
 ghost use Rattle.actor.specs.Handed.{is_client_frame, restarts_client};
 
@@ -28,12 +29,14 @@ pub fn is_client_restart(input: &ClientInput) -> bool
 ///
 /// It is refused as `Agent::step` refuses it, but that want of memory is the client's crash, and so
 /// never with `NoMemory`. A refusal changes nothing, and a crash leaves the frames as they were.
+/// None of what it ever started is forgotten.
 pub fn hand_client(
     client: &mut Agent,
     input: ClientInput,
     frames: &mut Frames,
 ) -> Result<Stepped, Refusal>
-    ensures { ClientAnswers client.old input frames.old result client.new frames.new }
+    ensures answers { ClientAnswers client.old input frames.old result client.new frames.new }
+    ensures grows { StartsMore client.old client.new }
 {
     outcome(client.step(input, frames), false)
 }
@@ -44,8 +47,9 @@ pub fn deliver_to_client(
     frame: &[u8],
     frames: &mut Frames,
 ) -> Result<Stepped, Refusal>
-    ensures { ClientAnswers client.old (client_inputs.Frame frame.now) frames.old result client.new
-        frames.new }
+    ensures answers { ClientAnswers client.old (client_inputs.Frame frame.now) frames.old result
+        client.new frames.new }
+    ensures grows { StartsMore client.old client.new }
 {
     outcome(client.receive(frame, frames), false)
 }

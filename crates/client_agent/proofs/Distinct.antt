@@ -1,5 +1,5 @@
 -- Lists of ids without doubles.
-use Rattle.std.proofs.Common.{◌≡◌, ℕ, nat_eq, sym, Bool, true, false, not, ◌&&◌, ◌||◌, List, [], ◌∷◌, ◌++◌, refl, ap, ◌∙◌, arith}
+use Rattle.std.proofs.Common.{◌≡◌, ℕ, nat_eq, sym, Bool, true, false, not, ◌&&◌, ◌||◌, List, [], ◌∷◌, ◌++◌, append_assoc, subst, refl, ap, ◌∙◌, arith}
 use Rattle.std.specs.List.{list_any}
 use Rattle.std.proofs.lemmas.List.Folds.{list_any-append}
 use Rattle.rows.specs.declared.allocation.AllocId.{AllocId}
@@ -65,3 +65,19 @@ all_but_last (x ∷ xs) id d =
     let none = off all (first_of (not all) (have_distinct_ids (xs ++ id ∷ [])) d) in
     let front = none_of (list_any (same_alloc x) xs) (same_alloc x id || false) (sym (list_any-append (same_alloc x) xs (id ∷ [])) ∙ none) in
     (λ i. not (front i) && all_but_last xs id (second_of (not all) (have_distinct_ids (xs ++ id ∷ [])) d) i)
+
+pub distinct_front : (xs ys : List AllocId) → AreDistinct (xs ++ ys) → AreDistinct xs
+distinct_front [] ys d = refl
+distinct_front (x ∷ xs) ys d =
+    let all = list_any (same_alloc x) (xs ++ ys) in
+    let none = off all (first_of (not all) (have_distinct_ids (xs ++ ys)) d) in
+    let front = none_of (list_any (same_alloc x) xs) (list_any (same_alloc x) ys) (sym (list_any-append (same_alloc x) xs ys) ∙ none) in
+    (λ i. not (front i) && distinct_front xs ys (second_of (not all) (have_distinct_ids (xs ++ ys)) d) i)
+
+-- where one stands among those in front of it, some id stands there twice
+pub stands_twice : (ids front rest : List AllocId) (id : AllocId) → ids ≡ front ++ id ∷ rest → list_any (same_alloc id) front ≡ true → AreDistinct ids → ⊥
+stands_twice ids front rest id is among distinct =
+    let split : ids ≡ (front ++ id ∷ []) ++ rest = is ∙ sym (append_assoc front (id ∷ []) rest) in
+    let alone = last_alone front id (distinct_front (front ++ id ∷ []) rest (subst AreDistinct split distinct)) in
+    let both : true ≡ false = sym among ∙ alone in
+    absurd (cc both)

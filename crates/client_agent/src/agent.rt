@@ -8,11 +8,13 @@ ghost use Rattle.group_model.specs.Messages.{Listing};
 ghost use Rattle.group_model.specs.Agents.{Arrives, agent_of};
 ghost use Rattle.group_inputs.specs.declared.client_input.ClientInput.TheVariants as inputs;
 ghost use Rattle.client_agent.specs.Capacity.{FitTogether, AreDistinct};
-ghost use Rattle.client_agent.specs.AgentView.{crashed_agent};
+ghost use Rattle.client_agent.specs.AgentView.{StartsMore, crashed_agent};
 ghost use Rattle.client_agent.specs.Steps.{AgentSteps, AgentTakes};
 ghost use Rattle.client_agent.specs.Refusals.{client_frame_refusal, misdirected_to_client, agent_refusal, IsAgentRefused, AgentRefusalLeaves};
 ghost use Rattle.client_agent.specs.Inner.Asking.{handing_of};
 ghost use Rattle.client_agent.specs.Inner.Received.{IsReceived, TakesReceived};
+
+mod restarting;
 
 use crate::asking::{Asked, client_of, send_asked};
 use crate::life::Life;
@@ -173,6 +175,7 @@ impl Agent {
         requires up { is_some self.old.client.life ≡ true }
         requires listed { AreListed list.now.rows.now }
         ensures same { self.new.size ≡ self.old.size }
+        ensures grows { StartsMore self.old self.new }
         ensures taken { OnOk result (AgentSteps self.old
             (Arrives list.now.from (Listing list.now.index list.now.rows.now)) self.new
             outbox.old outbox.new) }
@@ -210,6 +213,7 @@ impl Agent {
     fn handle(&mut self, received: Received, outbox: &mut Frames) -> Result<(), NoMemory>
         requires { is_some self.old.client.life ≡ true }
         ensures same { self.new.size ≡ self.old.size }
+        ensures grows { StartsMore self.old self.new }
         ensures taken { OnOk result
             (TakesReceived self.old received self.new outbox.old outbox.new) }
         ensures lost { OnErr result (self.new ≡ crashed_agent self.old) }
@@ -233,6 +237,7 @@ impl Agent {
     /// client is down.
     pub fn receive(&mut self, frame: &[u8], outbox: &mut Frames) -> Result<(), Refusal>
         ensures same { self.new.size ≡ self.old.size }
+        ensures grows { StartsMore self.old self.new }
         ensures taken { OnOk result
             (AgentTakes self.old (inputs.Frame frame.now) self.new outbox.old outbox.new) }
         ensures admitted { OnOk result
@@ -262,6 +267,7 @@ impl Agent {
     /// Something is asked of a server.
     fn ask(&mut self, what: Asked, server: ServerId, outbox: &mut Frames) -> Result<(), Refusal>
         ensures same { self.new.size ≡ self.old.size }
+        ensures grows { StartsMore self.old self.new }
         ensures taken { OnOk result
             (AgentTakes self.old (handing_of what server) self.new outbox.old outbox.new) }
         ensures admitted { OnOk result
@@ -289,6 +295,7 @@ impl Agent {
     /// An allocation that runs ends.
     fn end(&mut self, id: AllocId, ok: bool) -> Result<(), Refusal>
         ensures same { self.new.size ≡ self.old.size }
+        ensures grows { StartsMore self.old self.new }
         ensures taken { OnOk result ((all : List Frame) →
             AgentTakes self.old (inputs.End id ok) self.new all all) }
         ensures admitted { OnOk result
@@ -326,6 +333,7 @@ impl Agent {
     #[tactic(auto, using(crate::proofs::Taking::crashed_by, crate::proofs::Taking::restarted_by))]
     pub fn step(&mut self, input: ClientInput, outbox: &mut Frames) -> Result<(), Refusal>
         ensures same { self.new.size ≡ self.old.size }
+        ensures grows { StartsMore self.old self.new }
         ensures taken { OnOk result (AgentTakes self.old input self.new outbox.old outbox.new) }
         ensures admitted { OnOk result
             (agent_refusal self.old.size self.old.client input ≡ None) }

@@ -1,12 +1,13 @@
 //! The allocations that an agent ever started.
-ghost use Rattle.std.specs.Prelude.{◌≡◌, [], ◌∷◌, ◌++◌, false, length, take, OnOk, OnErr};
+ghost use Rattle.std.specs.Prelude.{◌≡◌, ◌⊎◌, [], ◌∷◌, ◌++◌, false, length, take, IfErr, IfOk, OnOk, OnErr};
+ghost use Rattle.rows.specs.declared.refusal.Refusal.TheVariants as refusals;
 ghost use Rattle.std.specs.List.{list_any};
 ghost use Rattle.fsm_model.specs.Words.{same_alloc};
 ghost use Rattle.client_agent.specs.Capacity.{AreDistinct};
 ghost use Rattle.client_agent.specs.Inner.Ids.{AreSet};
 
 use crate::ids::Ids;
-use rows::{AllocId, NoMemory};
+use rows::{AllocId, NoMemory, Refusal};
 use std::alloc::Global;
 use std::marker::Model;
 
@@ -57,6 +58,24 @@ impl Started {
             ids: Vec::new(alloc),
             set: Ids::none(alloc),
         }
+    }
+
+    /// These were started, in this order. It is refused with `OutOfRange` where one stands there
+    /// twice, and with `NoMemory`.
+    pub fn of(alloc: Global, ids: &[AllocId]) -> Result<Started, Refusal>
+        ensures ok { IfOk result (λ started. started ≡ ids.now) }
+        ensures distinct { OnOk result (AreDistinct ids.now) }
+        ensures err { IfErr result (λ cause. (cause ≡ refusals.NoMemory)
+            ⊎ ((cause ≡ refusals.OutOfRange) × (AreDistinct ids.now → ⊥))) }
+    {
+        let mut started = Started::none(alloc);
+        for id in ids {
+            if started.has(id) {
+                return Err(Refusal::OutOfRange);
+            }
+            started.push(id)?;
+        }
+        Ok(started)
     }
 
     /// The ids, in the order in which they were started.

@@ -1,4 +1,5 @@
-use Rattle.std.proofs.Common.{◌<◌, ◌≤◌, Option, Some, sym, subst, arith}
+use Rattle.std.proofs.Common.{◌≡◌, ◌∙◌, ◌<◌, ◌≤◌, Option, Some, [], ap, append-nil, length, sym, subst, take, arith}
+use Rattle.std.proofs.Math.Seq.{take-append_seam}
 use Rattle.group_model.specs.Messages.{Listing}
 use Rattle.group_model.specs.Agents.{Life, Arrives, Input}
 use Rattle.client_agent.specs.AgentView.{AgentView}
@@ -29,3 +30,13 @@ returns-in-Ok-clause-taken c =
     let taken = list_is_taken old new c.in-Some.life list.from list.index list.rows.now c.args.outbox.now c.apply_list.new.outbox (sym c.in-Some.ensures.value) above
     (λ i. record { node = c.self.inside.node; started = ok.0 i; life = Some (ok.1 i) }) ok.2 in
     subst (λ (a : AgentView). AgentSteps a input new c.args.outbox.now c.apply_list.new.outbox) c.self.view_is taken
+
+-- what it had started before is what is left
+pub returns-in-Err-clause-grows : goal.returns-in-Err-clause-grows
+returns-in-Err-clause-grows c =
+    let old = c.self.inside.started in
+    let more = c.in-Err.ensures.grows in
+    let back : c.truncate.new.self ≡ c.args.self.now.client.started =
+    c.truncate.ensures ∙ ap (λ n. take n c.apply_list.new.started) c.len-before.ensures ∙ ap (take (length old)) more.1 ∙ take-append_seam old more.0
+    ∙ ap (λ (a : AgentView). a.client.started) c.self.view_is in
+    ([], back ∙ sym (append-nil c.args.self.now.client.started))
