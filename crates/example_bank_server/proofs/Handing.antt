@@ -27,13 +27,13 @@ use Rattle.raft_snapshot.specs.Stored.{Stored}
 use Rattle.raft_snapshot.specs.Texts.{front, stable_at, stable_text}
 use Rattle.raft_snapshot.proofs.TextLaws.{front_lawful}
 use Rattle.journal.specs.Events.{IoEvent, BytesSent, LineReported}
-use Rattle.example_bank_server.specs.Inner.Before.{Remembers}
+use Rattle.raft_records.specs.Remembering.{Remembers}
 use Rattle.example_bank_server.specs.Inner.Refusals.{is_memory}
 use Rattle.example_bank_server.specs.Items.{asked, input_of, is_proposal, is_question, ticket}
 use Rattle.example_bank_server.specs.Lines.{Shows, refused_line, ticket_line, proposal_line, proposal_word}
-use Rattle.example_bank_server.specs.Records.{changed_by, raft_replay, part_read}
+use Rattle.raft_records.specs.Records.{changed_by, raft_replay, part_read}
 use Rattle.example_bank_server.specs.Turns.{IsDeclined, IsTaken, MayRefuse, Turn, at_fault, by_server, no_ticket, proposed, refused, sends, shown, taken, told}
-use Rattle.example_bank_server.specs.declared.delta.Before.{Before}
+use Rattle.raft_records.specs.declared.delta.Before.{Before}
 
 -- ---- frames, one after the other
 

@@ -1,3 +1,2 @@
 -- Words of private contracts.
 pub mod Refusals
-pub mod Before

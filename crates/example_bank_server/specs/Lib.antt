@@ -1,9 +1,6 @@
 pub mod Items
 pub mod Lines
 pub mod Turns
-pub mod Records
-pub mod Reading
-pub mod Starts
 pub mod Inner
 pub mod Laws
 pub mod Lives

@@ -11,8 +11,8 @@ use Rattle.wire.specs.Frames.{IsFrame}
 use Rattle.wire.specs.Messages.{Message}
 use Rattle.process_lives.specs.Lives.{Code}
 use Rattle.process_lives.specs.Servers.{server_code}
-use Rattle.example_bank_server.specs.Records.{raft_replay}
-use Rattle.example_bank_server.specs.Starts.{IsStored}
+use Rattle.raft_records.specs.Records.{raft_replay}
+use Rattle.raft_records.specs.Starts.{IsStored}
 use Rattle.example_bank_server.specs.Turns.{Turn}
 
 -- the first line of the journal of server `me` of so many

@@ -10,7 +10,7 @@ ghost use Rattle.example_bank_server.specs.Books.{OneBookOfLives};
 ghost use Rattle.example_bank_server.specs.Laws.Lives.{runs_servers};
 ghost use Rattle.example_bank_server.specs.Lines.{bank_reason, bank_words};
 ghost use Rattle.example_bank_server.specs.Lives.{BeginsWith, IsFrameItem, header_text, node_code};
-ghost use Rattle.example_bank_server.specs.Records.{raft_replay};
+ghost use Rattle.raft_records.specs.Records.{raft_replay};
 ghost use Rattle.example_bank_server.specs.Turns.{Turn};
 
 use crate::lines::Words;

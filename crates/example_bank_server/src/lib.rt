@@ -3,13 +3,11 @@
 //! leaves.
 #![tactic(auto)]
 
-mod delta;
 mod law;
 mod lines;
 mod node;
 mod start;
 
-pub use delta::LogDelta;
 pub use law::{live, processes_keep_one_book};
 pub use lines::Words;
 pub use node::Node;

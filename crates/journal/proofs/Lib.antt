@@ -4,6 +4,7 @@ pub mod Scanning
 pub mod RecordSteps
 pub mod RecordLaws
 pub mod Reading
+pub mod Starting
 pub mod Leaving
 pub mod Crashing
 pub mod Progress

@@ -4,6 +4,7 @@ pub mod Tails
 pub mod Events
 pub mod Histories
 pub mod Replays
+pub mod Starts
 pub mod Savings
 pub mod Batches
 pub mod Items

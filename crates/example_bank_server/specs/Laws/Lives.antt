@@ -32,8 +32,8 @@ use Rattle.process_lives.specs.Servers.{AreFrames, MayMean, TurnIs, stays_so, ta
 use Rattle.example_bank_server.specs.Items.{input_of, is_proposal}
 use Rattle.example_bank_server.specs.Lines.{refused_line, proposal_line, ticket_line}
 use Rattle.example_bank_server.specs.Lives.{header_text, IsFrameItem, node_code}
-use Rattle.example_bank_server.specs.Records.{raft_replay}
-use Rattle.example_bank_server.specs.Starts.{IsStored, new_part}
+use Rattle.raft_records.specs.Records.{raft_replay}
+use Rattle.raft_records.specs.Starts.{IsStored, new_part}
 use Rattle.example_bank_server.specs.Turns.{IsTaken, Turn, taken, proposed, refused, shown, told, sends}
 
 frames_are : (frames : List Frame) → AreFrames (sends frames) frames

@@ -4,7 +4,7 @@ use Rattle.fields_model.specs.Format.{whole}
 use Rattle.raft_core.specs.StoredParts.{stored_part}
 use Rattle.raft_snapshot.specs.Changes.{log_change}
 use Rattle.raft_snapshot.specs.Texts.{front}
-use Rattle.example_bank_server.specs.Records.{IsDelta, changed_by}
+use Rattle.raft_records.specs.Records.{IsDelta, changed_by}
 use Rattle.example_bank_server.proofs.Handing.{change_saved}
 use Rattle.example_bank_server.proofs.node.NodeActor.save.Goals as goal
 

@@ -3,7 +3,7 @@ use Rattle.std.proofs.lemmas.Result.{on_ok_weaker}
 use Rattle.rows.specs.Versions.{newest}
 use Rattle.raft_core.specs.StoredParts.{stored_part}
 use Rattle.raft_snapshot.specs.Texts.{stable_at, stable_text}
-use Rattle.example_bank_server.specs.Records.{part_read}
+use Rattle.raft_records.specs.Records.{part_read}
 use Rattle.example_bank_server.proofs.Handing.{whole_saved}
 use Rattle.example_bank_server.proofs.node.NodeActor.whole.Goals as goal
 

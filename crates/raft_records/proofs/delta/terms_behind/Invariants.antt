@@ -1,7 +1,7 @@
 use Rattle.std.proofs.Common.{◌≡◌, ◌+◌, ◌<◌, ◌≤◌, ℕ, suc, max, length}
 use Rattle.std.specs.Prelude.{slice_index}
 use Rattle.raft_model.specs.Logs.{term_at}
-use Rattle.example_bank_server.proofs.delta.terms_behind.Given as goal
+use Rattle.raft_records.proofs.delta.terms_behind.Given as goal
 
 -- the terms so far
 abbrev pub invariant-entries : goal.invariant-entries

@@ -2,7 +2,7 @@
 use Rattle.std.specs.Prelude.{◌≡◌, ◌+◌, ◌<◌, ◌≤◌, ℕ, suc, max, List, length, slice_index}
 use Rattle.raft_model.specs.Logs.{term_at}
 use Rattle.raft_core.specs.RaftView.{RaftView}
-use Rattle.example_bank_server.specs.declared.delta.Before.{Before}
+use Rattle.raft_records.specs.declared.delta.Before.{Before}
 
 -- the terms of the entries behind an index, or of the first of them
 pub record HasTerms {S C : Type 0} (from : ℕ) (terms : List ℕ) (view : RaftView S C) : Type 0 where

@@ -8,8 +8,8 @@ use Rattle.raft_snapshot.specs.Changes.{changed_part, SharesEntries}
 use Rattle.raft_snapshot.specs.Stored.{Stored}
 use Rattle.raft_snapshot.specs.Texts.{Front, front, stable_at}
 use Rattle.journal.specs.Replays.{Replay}
-use Rattle.example_bank_server.specs.declared.delta.LogDelta.{LogDelta}
-use Rattle.example_bank_server.specs.declared.delta.LogDelta.TheVariants as deltas
+use Rattle.raft_records.specs.declared.delta.LogDelta.{LogDelta}
+use Rattle.raft_records.specs.declared.delta.LogDelta.TheVariants as deltas
 
 abbrev pub part_read : {A : Type 0} → Result A ℕ → Option A
 part_read (Ok x) = Some x

@@ -1,8 +1,9 @@
 use Rattle.std.proofs.Common.{◌≡◌, Err, arith, rules}
 use Rattle.journal.proofs.Scanning.{one_further}
-use Rattle.example_bank_server.specs.Starts.{no_record, no_whole}
-use Rattle.example_bank_server.proofs.Starting.{read_first, read_more, read_all, fault_there, tail_there}
-use Rattle.example_bank_server.proofs.start.from_journal.Goals as goal
+use Rattle.journal.specs.Starts.{no_record, no_whole}
+use Rattle.journal.proofs.Starting.{read_first, read_more, read_all, fault_there, tail_there}
+use Rattle.raft_records.specs.Records.{raft_replay}
+use Rattle.raft_records.proofs.reading.from_journal.Goals as goal
 
 pub records-init : goal.records-init
 records-init g c =
@@ -11,7 +12,7 @@ records-init g c =
     record {
       within = (one_further bytes (λ i. omega (arith, c.type_inv.bytes i)) c.args.start payload c.in-Some.next c.in-Some.ensures c.requires).1;
       so =
-          read_first g.M.Machine.spec bytes (λ i. omega (arith, c.type_inv.bytes i)) c.args.start payload c.in-Some.next c.in_ok-stable.stable
+          read_first (raft_replay g.M.Machine.spec) bytes (λ i. omega (arith, c.type_inv.bytes i)) c.args.start payload c.in-Some.next c.in_ok-stable.stable
           c.in-Some.ensures c.in_ok-stable.ensures.whole;
     }
 
@@ -22,14 +23,14 @@ records-preserved g c =
     record {
       within = (one_further bytes (λ i. omega (arith, c.type_inv.bytes i)) c.records.at read.payload.now read.next read.ensures c.records.invariant.within).1;
       so =
-          read_more g.M.Machine.spec bytes (λ i. omega (arith, c.type_inv.bytes i)) c.args.start c.records.at read.payload.now read.next read.ensures
+          read_more (raft_replay g.M.Machine.spec) bytes (λ i. omega (arith, c.type_inv.bytes i)) c.args.start c.records.at read.payload.now read.next read.ensures
           c.records.stable c.follow.new.stable c.in_ok-follow.ensures.after c.records.invariant.so;
     }
 
 pub returns-then-may_be_torn-clause-kept : goal.returns-then-may_be_torn-clause-kept
 returns-then-may_be_torn-clause-kept g c =
     let none = c.in_default-next_record.ensures in
-    read_all g.M.Machine.spec c.args.bytes.now (λ i. omega (arith, c.type_inv.bytes i)) c.args.start c.records.at none.0 c.records.stable none.1
+    read_all (raft_replay g.M.Machine.spec) c.args.bytes.now (λ i. omega (arith, c.type_inv.bytes i)) c.args.start c.records.at none.0 c.records.stable none.1
     c.if-may_be_torn.ensures c.records.invariant.so
 
 pub returns-in_default-clause-fault : goal.returns-in_default-clause-fault
@@ -52,10 +53,10 @@ returns-in_err-follow-clause-fault g c =
     let read = c.in-Some-next_record in
     rw is (λ place e.
     let why = c.in_err-follow.ensures.fault place e in
-    fault_there g.M.Machine.spec c.args.bytes.now c.args.start c.records.at place c.records.stable read.payload.now read.next why.0 c.records.invariant.so read.ensures why.1)
+    fault_there (raft_replay g.M.Machine.spec) c.args.bytes.now c.args.start c.records.at place c.records.stable read.payload.now read.next why.0 c.records.invariant.so read.ensures why.1)
 
 pub returns-else-may_be_torn-clause-fault : goal.returns-else-may_be_torn-clause-fault
 returns-else-may_be_torn-clause-fault g c = λ place is.
     let none = c.in_default-next_record.ensures in
     let here : c.records.at ≡ place = cc is in
-    tail_there g.M.Machine.spec c.args.bytes.now c.args.start c.records.at place c.records.stable none.0 here c.records.invariant.so none.1 c.if-may_be_torn.ensures
+    tail_there (raft_replay g.M.Machine.spec) c.args.bytes.now c.args.start c.records.at place c.records.stable none.0 here c.records.invariant.so none.1 c.if-may_be_torn.ensures

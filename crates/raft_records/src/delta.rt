@@ -4,8 +4,8 @@ ghost use Rattle.std.specs.Prelude.{◌≡◌, ◌≤◌, ◌+◌, ◌⊎◌, �
 ghost use Rattle.raft_snapshot.specs.Stored.{Stored};
 ghost use Rattle.raft_core.specs.RaftView.{RaftView};
 ghost use Rattle.raft_core.specs.StoredParts.{stored_part, KeepsLog};
-ghost use Rattle.example_bank_server.specs.Inner.Before.{HasTerms, Remembers, SharesTerms};
-ghost use Rattle.example_bank_server.specs.Records.{IsDelta};
+ghost use Rattle.raft_records.specs.Remembering.{HasTerms, Remembers, SharesTerms};
+ghost use Rattle.raft_records.specs.Records.{IsDelta};
 
 use machine::Machine;
 use raft_core::Raft;

@@ -1,9 +1,9 @@
 use Rattle.std.proofs.Common.{arith, subst, sym}
 use Rattle.raft_snapshot.specs.Changes.{SharesEntries}
 use Rattle.raft_core.specs.StoredParts.{stored_part}
-use Rattle.example_bank_server.specs.Inner.Before.{SharesTerms}
-use Rattle.example_bank_server.proofs.Deltas.{shares, nothing}
-use Rattle.example_bank_server.proofs.delta.changed.Goals as goal
+use Rattle.raft_records.specs.Remembering.{SharesTerms}
+use Rattle.raft_records.proofs.Deltas.{shares, nothing}
+use Rattle.raft_records.proofs.delta.changed.Goals as goal
 
 pub returns-then-get-keep : goal.returns-then-get-keep
 returns-then-get-keep g c = λ old r keeps.

@@ -7,8 +7,8 @@ use Rattle.raft_snapshot.specs.Stored.{Stored}
 use Rattle.raft_snapshot.proofs.Changes.{shares_over}
 use Rattle.raft_core.specs.RaftView.{RaftView}
 use Rattle.raft_core.specs.StoredParts.{stored_part, KeepsLog}
-use Rattle.example_bank_server.specs.declared.delta.Before.{Before}
-use Rattle.example_bank_server.specs.Inner.Before.{SharesTerms, Remembers}
+use Rattle.raft_records.specs.declared.delta.Before.{Before}
+use Rattle.raft_records.specs.Remembering.{SharesTerms, Remembers}
 
 module _ {S C : Type 0} where
   pub joined_both : (first mid now : Stored S C) (j k i : ℕ) → SharesEntries first.log mid.log j → SharesEntries mid.log now.log k → i ≤ j → i ≤ k → (i ≡ j) ⊎ (i ≡ k) → SharesEntries first.log now.log i

@@ -1,6 +1,6 @@
 use Rattle.std.proofs.Common.{◌≡◌, ◌+◌, ◌<◌, ◌^◌}
-use Rattle.example_bank_server.specs.Inner.Before.{SharesTerms}
-use Rattle.example_bank_server.proofs.delta.kept.Given as goal
+use Rattle.raft_records.specs.Remembering.{SharesTerms}
+use Rattle.raft_records.proofs.delta.kept.Given as goal
 
 -- as many terms were the same
 abbrev pub invariant-terms : goal.invariant-terms

@@ -2,8 +2,8 @@ use Rattle.std.proofs.Common.{◌≡◌, ◌∙◌, false, true, option_map, ap,
 use Rattle.std.specs.Prelude.{codes}
 use Rattle.std.proofs.lemmas.Bool.Decides.{Decides-eqb}
 use Rattle.std.proofs.lemmas.Slice.Eq.{starts_is}
-use Rattle.example_bank_server.proofs.Starting.{anothers_there, bad_behind, behind_header, own_only}
-use Rattle.example_bank_server.proofs.start.stable_of.Goals as goal
+use Rattle.raft_records.proofs.Starting.{anothers_there, bad_behind, behind_header, own_only}
+use Rattle.raft_records.proofs.reading.stable_of.Goals as goal
 
 pub returns-then-starts_with-clause-stored : goal.returns-then-starts_with-clause-stored
 returns-then-starts_with-clause-stored g c =

@@ -1,0 +1,3 @@
+pub mod Deltas
+pub mod Starting
+pub mod Saved

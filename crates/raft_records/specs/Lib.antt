@@ -1,0 +1,3 @@
+pub mod Records
+pub mod Starts
+pub mod Remembering
