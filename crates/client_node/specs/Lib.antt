@@ -1,0 +1,7 @@
+pub mod Items
+pub mod Records
+pub mod Turns
+pub mod Statuses
+pub mod Starts
+pub mod Inner
+pub mod Laws

@@ -1,0 +1,5 @@
+pub mod Sums
+pub mod Rests
+pub mod Quiet
+pub mod Looks
+pub mod Parts
