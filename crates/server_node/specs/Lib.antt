@@ -1,0 +1,11 @@
+pub mod Items
+pub mod Nodes
+pub mod Handed
+pub mod Working
+pub mod Sights
+pub mod Passing
+pub mod Answers
+pub mod Turns
+pub mod Statuses
+pub mod Inner
+pub mod Laws
