@@ -1,4 +1,5 @@
 pub mod Objects
 pub mod EachLine
 pub mod Complaints
+pub mod Depths
 mod NamedSteps
