@@ -6,7 +6,7 @@ use rows::{Index, Term};
 pub struct Asked {
     /// Whom to answer.
     pub id: u64,
-    /// The place of the command in the log.
+    /// The index of the command in the log.
     pub index: Index,
     /// The term of its entry.
     pub term: Term,
